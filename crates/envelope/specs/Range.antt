@@ -1,0 +1,33 @@
+-- The range of a station's inputs (01, 'A sheet and its seven fields').
+use Prim.Native.Nat.{ℕ, _+_, _*_, _≤_}
+use mathlib.Core.List.{List}
+use mathlib.Core.Path.{_≡_}
+use lib.ListN.{length, getD}
+use lib.IntN.{ℤ, pos, natAbs}
+use Rattle.standard.specs.declared.Capacities.{Capacities}
+
+-- the kind of a case, 0 for an empty place, and its effect on a component; both are 0 past the last case
+abbrev pub kindOf : List ℕ → ℕ → ℕ
+kindOf kinds k = getD kinds k 0
+
+abbrev pub effectOf : List ℤ → ℕ → ℕ → ℤ
+effectOf effects k j = getD effects (k * 3 + j) (pos 0)
+
+-- effects of the cases on what is maximised
+abbrev pub listed : List ℤ → ℕ → ℤ
+listed e k = getD e k (pos 0)
+
+-- the kinds of the 32 cases, and three effects of each
+pub record StationInRange (kinds : List ℕ) (effects : List ℤ) : Type 0 where
+  pub kinds-long : length kinds ≡ 32
+  pub effects-long : length effects ≡ 96
+  pub kinds-range : (k : ℕ) → getD kinds k 0 ≤ 11
+  pub effects-range : (i : ℕ) → natAbs (getD effects i (pos 0)) ≤ 10000
+
+pub record CapacitiesInRange (p : Capacities) : Type 0 where
+  pub n-least : 1 ≤ p .n
+  pub n-most : p .n ≤ 10000
+  pub y-least : 1 ≤ p .y
+  pub y-most : p .y ≤ 10000
+  pub z-least : 1 ≤ p .z
+  pub z-most : p .z ≤ 10000

@@ -1,0 +1,5 @@
+pub mod Signs
+pub mod Machine
+pub mod Sums
+pub mod Masks
+pub mod Linear

@@ -1,0 +1,80 @@
+-- The greatest factored effect of a row, and the sets of cases that reach it, for cases with the given kinds and effects.
+use Prim.Native.Nat.{ℕ, _+_, _*_, min}
+use mathlib.Core.Bool.{Bool, true, false, cond, _&&_}
+use lib.Dec.{eqb, ltb}
+use lib.IntN.{ℤ, pos, _-ℤ_}
+use Rattle.integers.specs.Sums.{sum, most, up, down}
+use Rattle.standard.specs.declared.Settings.{Settings}
+use Rattle.standard.specs.declared.Class.{Class}
+use Rattle.standard.specs.declared.Class.the-variants.{Always, Subset, OneOf, Unknown}
+use Rattle.standard.specs.Kinds.{classOf, groups, permanentEarth}
+use Rattle.standard.specs.Rows.{factorOf, lowOf}
+use Rattle.standard.specs.Combination.{Combination, cases}
+use Rattle.optimum.specs.Factors.{worth, leads}
+
+-- the least and the greatest factor that a case of a class takes by itself; the cases of a group are counted apart
+abbrev pub leastBy : Class → ℕ → ℕ
+leastBy Always f = f
+leastBy Subset f = 0
+leastBy (OneOf g) f = 0
+leastBy Unknown f = 0
+
+abbrev pub greatestBy : Class → ℕ → ℕ
+greatestBy Always f = f
+greatestBy Subset f = f
+greatestBy (OneOf g) f = 0
+greatestBy Unknown f = 0
+
+abbrev pub groupBy : Class → ℕ
+groupBy Always = groups
+groupBy Subset = groups
+groupBy (OneOf g) = g
+groupBy Unknown = groups
+
+-- the lower of the factors that an acting case of a kind may take
+unfoldable pub lowerOf : Settings → ℕ → ℕ → ℕ
+lowerOf s row kind = cond (eqb kind permanentEarth) (min (lowOf s) (factorOf s row kind)) (factorOf s row kind)
+
+unfoldable pub leastOf : Settings → ℕ → ℕ → ℕ
+leastOf s row kind = leastBy (classOf kind) (lowerOf s row kind)
+
+unfoldable pub greatestOf : Settings → ℕ → ℕ → ℕ
+greatestOf s row kind = greatestBy (classOf kind) (factorOf s row kind)
+
+unfoldable pub groupOf : ℕ → ℕ
+groupOf kind = groupBy (classOf kind)
+
+-- what case k adds for group g, and the case that leads the group
+abbrev pub worthOf : Settings → ℕ → (ℕ → ℕ) → (ℕ → ℤ) → ℕ → ℕ → ℕ
+worthOf s row kind e = worth (λ k. groupOf (kind k)) (λ k. factorOf s row (kind k)) (λ k. up (e k))
+
+abbrev pub leaderOf : Settings → ℕ → (ℕ → ℕ) → (ℕ → ℤ) → ℕ → ℕ
+leaderOf s row kind e = leads cases (λ k. groupOf (kind k)) (λ k. factorOf s row (kind k)) (λ k. up (e k))
+
+-- positive effects at the greatest factor, negative ones at the least, and the best case of each group
+abbrev pub gainOf : Settings → ℕ → (ℕ → ℕ) → (ℕ → ℤ) → ℕ
+gainOf s row kind e = sum cases (λ k. greatestOf s row (kind k) * up (e k)) + sum groups (λ g. most cases (worthOf s row kind e g))
+
+abbrev pub lossOf : Settings → ℕ → (ℕ → ℕ) → (ℕ → ℤ) → ℕ
+lossOf s row kind e = sum cases (λ k. leastOf s row (kind k) * down (e k))
+
+unfoldable pub rowMaximum : Settings → ℕ → (ℕ → ℕ) → (ℕ → ℤ) → ℤ
+rowMaximum s row kind e = pos (gainOf s row kind e) -ℤ pos (lossOf s row kind e)
+
+-- whether a case of a class acts: `positive` says that its effect is, `first` that it leads its group
+abbrev pub actsBy : Class → (positive first : Bool) → Bool
+actsBy Always positive first = true
+actsBy Subset positive first = positive
+actsBy (OneOf g) positive first = first && positive
+actsBy Unknown positive first = false
+
+unfoldable pub actsIn : Settings → ℕ → (ℕ → ℕ) → (ℕ → ℤ) → ℕ → Bool
+actsIn s row kind e k =
+    ltb 0 (factorOf s row (kind k)) && actsBy (classOf (kind k)) (ltb 0 (up (e k))) (eqb (leaderOf s row kind e (groupOf (kind k))) k)
+
+-- an Hp case whose effect is negative takes the low factor
+unfoldable pub lowIn : Settings → ℕ → (ℕ → ℕ) → (ℕ → ℤ) → ℕ → Bool
+lowIn s row kind e k = ltb 0 (factorOf s row (kind k)) && (eqb (kind k) permanentEarth && ltb 0 (down (e k)))
+
+abbrev pub bestIn : Settings → ℕ → (ℕ → ℕ) → (ℕ → ℤ) → Combination
+bestIn s row kind e = record { row = row; acting = actsIn s row kind e; low = lowIn s row kind e }

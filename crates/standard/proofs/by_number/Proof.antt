@@ -1,0 +1,17 @@
+-- In each arm the number that was matched decides the tests of the contract.
+-- Assumes nothing.
+use borrow.Author.Tests.{ne-eqb}
+use Rattle.standard.proofs.by_number.Statement.{statement}
+use Rattle.standard.proofs.by_number.Tie as tie
+
+returns : tie.Need-returns
+returns c = rw (c .match .keys1)
+
+returns-2 : tie.Need-returns-2
+returns-2 c = rw (c .match .keys2)
+
+returns-3 : tie.Need-returns-3
+returns-3 c = simp (ne-eqb _ _ (c .match .rest .0 .1), ne-eqb _ _ (c .match .rest .1))
+
+pub by-number-spec : {M : Type 1} → statement M
+by-number-spec = tie.close (tie.spec returns returns-2 returns-3)

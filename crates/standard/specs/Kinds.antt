@@ -1,0 +1,32 @@
+-- Kinds of load, and how the cases of a kind may act.
+use Prim.Native.Nat.{ℕ}
+use mathlib.Core.List.{List, [], _∷_}
+use lib.ListN.{getD}
+use Rattle.standard.specs.declared.Class.{Class}
+use Rattle.standard.specs.declared.Class.the-variants.{Always, Subset, OneOf, Unknown}
+
+-- By kind, from 0, an empty place: D, F, Hp, Hv, L, Lr, S, R, W, E, Fa.
+-- 01, 'Admissible combinations': all D, F and Hp cases act; any subset of Hv and of L;
+-- at most one among Lr, S and R together; at most one W, one E, one Fa.
+abbrev pub classes : List Class
+classes =
+    Unknown
+    ∷ Always ∷ Always ∷ Always
+    ∷ Subset ∷ Subset
+    ∷ OneOf 0 ∷ OneOf 0 ∷ OneOf 0
+    ∷ OneOf 1 ∷ OneOf 2 ∷ OneOf 3
+    ∷ []
+
+unfoldable pub classOf : ℕ → Class
+classOf kind = getD classes kind Unknown
+
+-- the numbers of groups and of kinds, the empty place among them
+abbrev pub groups : ℕ
+groups = 4
+
+abbrev pub kinds : ℕ
+kinds = 12
+
+-- Hp, whose cases may take the low factor
+abbrev pub permanentEarth : ℕ
+permanentEarth = 3

@@ -1,0 +1,4 @@
+pub mod Kinds
+pub mod Rows
+pub mod Combination
+pub mod Governing
