@@ -10,7 +10,7 @@ use lib.IntN.{ℤ, pos, negℤ, _+ℤ_, _-ℤ_, natAbs}
 use Rattle.integers.specs.Sums.{when, sum, most, mostAt, maskOf, up, down}
 use Rattle.standard.specs.declared.Settings.{Settings}
 use Rattle.standard.specs.Kinds.{classOf, kinds, groups, permanentEarth}
-use Rattle.standard.specs.Rows.{rows, factorOf}
+use Rattle.standard.specs.Rows.{rows, rowTable, factorOf}
 use Rattle.standard.specs.Combination.{cases}
 use Rattle.optimum.specs.Row.{greatestOf, leastOf, groupOf, worthOf, leaderOf, actsBy, actsIn, lowIn}
 use Rattle.standard.specs.declared.Class.{Class}
@@ -132,11 +132,12 @@ pub record LeadRoom (leads : List ℤ) (g : ℕ) (x : ℤ) : Type 0 where
   pub most : up x < 2 ^ 62
 
 -- the value and the leads over the kinds below `kind`
-pub record KindRoom (total : ℤ) (leads : List ℤ) (s : Settings) (row kind : ℕ) (sums : List ℤ) : Type 0 where
+pub record KindRoom (total : ℤ) (leads : List ℤ) (table : List (List ℕ)) (s : Settings) (row kind : ℕ) (sums : List ℤ) : Type 0 where
   pub row-below : row < rows
   pub kind-some : 0 < kind
   pub kind-below : kind < kinds
   pub bounded : Bounded sums
+  pub table-is : table ≡ rowTable
   pub value : total ≡ valueBy s row sums kind
   pub led : Led leads s row sums kind
 

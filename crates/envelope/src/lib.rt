@@ -5,13 +5,14 @@ ghost use lib.IntN.{ℤ, pos, negℤ, _+ℤ_, _*ℤ_, natAbs};
 ghost use Rattle.integers.specs.Sums.{when};
 ghost use Rattle.standard.specs.Combination.{cases, denominatorOf};
 ghost use Rattle.standard.specs.Kinds.{classOf, kinds, groups};
-ghost use Rattle.standard.specs.Rows.{rows, factorOf};
+ghost use Rattle.standard.specs.Rows.{rows, rowTable, factorOf};
 ghost use Rattle.optimum.specs.Row.{lowerOf};
 ghost use Rattle.envelope.specs.Range.{kindOf, effectOf, listed, StationInRange, CapacitiesInRange};
 ghost use Rattle.envelope.specs.Envelope.{betterBy, bestIn, governingOf, extremeIn, extremeOf, extremesOf, weighed, unitOf, signedBy, patternOf, patternBest, higherBy, peakOf, utilisedOf};
 ghost use Rattle.envelope.specs.Sums.{WeighRoom, WeightsInRange, Weighed, TallyRoom, talliedOf, CasesInRange, Summed, effectMost, Bounded, valueBy, Led, LeadRoom, leadGain, leadTaken, KindRoom, worthsBy, firstsBy, challengedWorths, challengedFirsts, LeadersOf, actsAt, lowAt, setsOf};
 use standard::Capacities;
 use standard::Class;
+use standard::RowTable;
 use standard::Settings;
 use standard::Span;
 
@@ -119,19 +120,19 @@ fn sums_of(kinds: &[u8], e: &[i64]) -> [i64; 36]
 }
 
 // The factor of a kind in a row, to compute with.
-fn full(s: Settings, row: usize, kind: usize) -> i64
-    requires { ⌜ (row < rows) × (0 < kind) × (kind < kinds) ⌝ }
+fn full(table: &RowTable, s: Settings, row: usize, kind: usize) -> i64
+    requires { ⌜ (row < rows) × (0 < kind) × (kind < kinds) × (now table ≡ rowTable) ⌝ }
     ensures { λ r. ⌜ r ≡ pos (factorOf s row kind) ⌝ }
 {
-    integers::signed(standard::factor(s, row, kind) as u64)
+    integers::signed(standard::factor(table, s, row, kind) as u64)
 }
 
 // The lower of the factors that an acting case of a kind may take.
-fn lower(s: Settings, row: usize, kind: usize) -> i64
-    requires { ⌜ (row < rows) × (0 < kind) × (kind < kinds) ⌝ }
+fn lower(table: &RowTable, s: Settings, row: usize, kind: usize) -> i64
+    requires { ⌜ (row < rows) × (0 < kind) × (kind < kinds) × (now table ≡ rowTable) ⌝ }
     ensures { λ r. ⌜ r ≡ pos (lowerOf s row kind) ⌝ }
 {
-    let f = standard::factor(s, row, kind);
+    let f = standard::factor(table, s, row, kind);
     let low = standard::low_factor(s);
     if kind == 3 {
         if low < f {
@@ -157,20 +158,21 @@ fn lead(leads: &mut [i64], g: usize, x: i64) -> i64
 fn with_kind(
     total: i64,
     leads: &mut [i64],
+    table: &RowTable,
     s: Settings,
     row: usize,
     kind: usize,
     sums: &[i64],
 ) -> i64
-    requires { ⌜ KindRoom total (now leads) s row kind (now sums) ⌝ }
+    requires { ⌜ KindRoom total (now leads) (now table) s row kind (now sums) ⌝ }
     ensures { λ r. ⌜ (r ≡ valueBy s row (now (sums .entry)) (kind + 1)) × Led (now (leads .exit)) s row (now (sums .entry)) (kind + 1) ⌝ }
 {
     let at = kind * 3;
-    let f = full(s, row, kind);
+    let f = full(table, s, row, kind);
     let q = standard::class_of(kind);
     match q {
         Class::Always => {
-            let l = lower(s, row, kind);
+            let l = lower(table, s, row, kind);
             let gained = integers::scaled(total, f, sums[at]);
             integers::scaled(gained, l, sums[at + 1])
         }
@@ -185,15 +187,15 @@ fn with_kind(
 }
 
 // The value of a row from the sums of the kinds.
-fn row_value(s: Settings, row: usize, sums: &[i64]) -> i64
-    requires { ⌜ (row < rows) × Bounded (now sums) ⌝ }
+fn row_value(table: &RowTable, s: Settings, row: usize, sums: &[i64]) -> i64
+    requires { ⌜ (row < rows) × Bounded (now sums) × (now table ≡ rowTable) ⌝ }
     ensures { λ r. ⌜ r ≡ valueBy s row (now (sums .entry)) kinds ⌝ }
 {
     let mut leads = [0i64; 4];
     let mut total: i64 = 0;
     let mut kind: usize = 1;
     while kind < 12 {
-        total = with_kind(total, &mut leads, s, row, kind, sums);
+        total = with_kind(total, &mut leads, table, s, row, kind, sums);
         kind += 1;
     }
     total
@@ -211,15 +213,15 @@ fn better(b: Best, row: usize, value: i64) -> Best
 }
 
 // The best of the row held and the rows of a span.
-fn best_in(best: Best, p: Span, s: Settings, sums: &[i64]) -> Best
-    requires { ⌜ (p .to ≤ rows) × Bounded (now sums) ⌝ }
+fn best_in(best: Best, p: Span, table: &RowTable, s: Settings, sums: &[i64]) -> Best
+    requires { ⌜ (p .to ≤ rows) × Bounded (now sums) × (now table ≡ rowTable) ⌝ }
     ensures { λ r. ⌜ r ≡ bestIn (λ row. valueBy s row (now (sums .entry)) kinds) best p ⌝ }
 {
     let mut b = best;
     let mut row = p.from;
     let to = p.to;
     while row < to {
-        let v = row_value(s, row, sums);
+        let v = row_value(table, s, row, sums);
         b = better(b, row, v);
         row += 1;
     }
@@ -227,8 +229,8 @@ fn best_in(best: Best, p: Span, s: Settings, sums: &[i64]) -> Best
 }
 
 // The row that governs.
-fn governing(s: Settings, kinds: &[u8], e: &[i64]) -> Best
-    requires { ⌜ CasesInRange (now kinds) (now e) ⌝ }
+fn governing(table: &RowTable, s: Settings, kinds: &[u8], e: &[i64]) -> Best
+    requires { ⌜ CasesInRange (now kinds) (now e) × (now table ≡ rowTable) ⌝ }
     ensures { λ r. ⌜ r ≡ governingOf s (kindOf (now (kinds .entry))) (listed (now (e .entry))) ⌝ }
 {
     let sums = sums_of(kinds, e);
@@ -236,10 +238,11 @@ fn governing(s: Settings, kinds: &[u8], e: &[i64]) -> Best
     let q = standard::flood_rows(s);
     let row = p.from;
     let to = p.to;
-    let value = row_value(s, row, &sums);
-    let later = Span { from: row + 1, to };
-    let b = best_in(Best { row, value }, later, s, &sums);
-    best_in(b, q, s, &sums)
+    let value = row_value(table, s, row, &sums);
+    let next = row + 1;
+    let later = Span { from: next, to };
+    let b = best_in(Best { row, value }, later, table, s, &sums);
+    best_in(b, q, table, s, &sums)
 }
 
 // The case takes the lead of its group where it adds more.
@@ -257,26 +260,27 @@ fn challenge(worths: &mut [i64], firsts: &mut [usize], g: usize, x: i64, k: usiz
 fn with_case(
     worths: &mut [i64],
     firsts: &mut [usize],
+    table: &RowTable,
     s: Settings,
     row: usize,
     kind: usize,
     e: i64,
     k: usize,
 )
-    requires { ⌜ (row < rows) × (kind < kinds) × (natAbs e ≤ effectMost) × (length (now worths) ≡ groups) × (length (now firsts) ≡ groups) ⌝ }
+    requires { ⌜ (row < rows) × (kind < kinds) × (natAbs e ≤ effectMost) × (length (now worths) ≡ groups) × (length (now firsts) ≡ groups) × (now table ≡ rowTable) ⌝ }
     ensures { λ _. ⌜ (now (worths .exit) ≡ worthsBy (classOf kind) (now (worths .entry)) (pos (factorOf s row kind) *ℤ e)) × (now (firsts .exit) ≡ firstsBy (classOf kind) (now (worths .entry)) (now (firsts .entry)) (pos (factorOf s row kind) *ℤ e) k) ⌝ }
 {
     let q = standard::class_of(kind);
     if let Class::OneOf(g) = q {
-        let f = full(s, row, kind);
+        let f = full(table, s, row, kind);
         let x = integers::scaled(0, f, e);
         challenge(worths, firsts, g, x, k);
     }
 }
 
 // The case that leads each group in a row.
-fn leaders(s: Settings, row: usize, kinds: &[u8], e: &[i64]) -> [usize; 4]
-    requires { ⌜ (row < rows) × CasesInRange (now kinds) (now e) ⌝ }
+fn leaders(table: &RowTable, s: Settings, row: usize, kinds: &[u8], e: &[i64]) -> [usize; 4]
+    requires { ⌜ (row < rows) × CasesInRange (now kinds) (now e) × (now table ≡ rowTable) ⌝ }
     ensures { λ r. ⌜ LeadersOf r s row (kindOf (now (kinds .entry))) (listed (now (e .entry))) ⌝ }
 {
     let mut worths = [0i64; 4];
@@ -285,32 +289,40 @@ fn leaders(s: Settings, row: usize, kinds: &[u8], e: &[i64]) -> [usize; 4]
     while k < 32 {
         let kind = kinds[k] as usize;
         let x = e[k];
-        with_case(&mut worths, &mut firsts, s, row, kind, x, k);
+        with_case(&mut worths, &mut firsts, table, s, row, kind, x, k);
         k += 1;
     }
     firsts
 }
 
 // Whether a case acts in the best combination of a row.
-fn acts(s: Settings, row: usize, kind: usize, e: i64, firsts: &[usize], k: usize) -> bool
-    requires { ⌜ (row < rows) × (kind < kinds) × (length (now firsts) ≡ groups) ⌝ }
+fn acts(
+    table: &RowTable,
+    s: Settings,
+    row: usize,
+    kind: usize,
+    e: i64,
+    firsts: &[usize],
+    k: usize,
+) -> bool
+    requires { ⌜ (row < rows) × (kind < kinds) × (length (now firsts) ≡ groups) × (now table ≡ rowTable) ⌝ }
     ensures { λ r. ⌜ r ≡ actsAt s row kind e (now (firsts .entry)) k ⌝ }
 {
     let q = standard::class_of(kind);
     match q {
-        Class::Always => 0 < standard::factor(s, row, kind),
-        Class::Subset => 0 < standard::factor(s, row, kind) && 0 < e,
-        Class::OneOf(g) => 0 < standard::factor(s, row, kind) && firsts[g] == k && 0 < e,
+        Class::Always => 0 < standard::factor(table, s, row, kind),
+        Class::Subset => 0 < standard::factor(table, s, row, kind) && 0 < e,
+        Class::OneOf(g) => 0 < standard::factor(table, s, row, kind) && firsts[g] == k && 0 < e,
         Class::Unknown => false,
     }
 }
 
 // Whether it takes the low factor there.
-fn is_low(s: Settings, row: usize, kind: usize, e: i64) -> bool
-    requires { ⌜ (row < rows) × (kind < kinds) ⌝ }
+fn is_low(table: &RowTable, s: Settings, row: usize, kind: usize, e: i64) -> bool
+    requires { ⌜ (row < rows) × (kind < kinds) × (now table ≡ rowTable) ⌝ }
     ensures { λ r. ⌜ r ≡ lowAt s row kind e ⌝ }
 {
-    kind == 3 && 0 < standard::factor(s, row, 3) && e < 0
+    kind == 3 && 0 < standard::factor(table, s, row, 3) && e < 0
 }
 
 fn with_bit(mask: u64, on: bool, bit: u64) -> u64
@@ -321,11 +333,11 @@ fn with_bit(mask: u64, on: bool, bit: u64) -> u64
 }
 
 // The sets of a row's best combination.
-fn sets_of(s: Settings, row: usize, kinds: &[u8], e: &[i64]) -> Sets
-    requires { ⌜ (row < rows) × CasesInRange (now kinds) (now e) ⌝ }
+fn sets_of(table: &RowTable, s: Settings, row: usize, kinds: &[u8], e: &[i64]) -> Sets
+    requires { ⌜ (row < rows) × CasesInRange (now kinds) (now e) × (now table ≡ rowTable) ⌝ }
     ensures { λ r. ⌜ r ≡ setsOf s row (kindOf (now (kinds .entry))) (listed (now (e .entry))) ⌝ }
 {
-    let firsts = leaders(s, row, kinds, e);
+    let firsts = leaders(table, s, row, kinds, e);
     let mut acting: u64 = 0;
     let mut low: u64 = 0;
     let mut bit: u64 = 1;
@@ -333,24 +345,26 @@ fn sets_of(s: Settings, row: usize, kinds: &[u8], e: &[i64]) -> Sets
     while k < 32 {
         let kind = kinds[k] as usize;
         let x = e[k];
-        acting = with_bit(acting, acts(s, row, kind, x, &firsts, k), bit);
-        low = with_bit(low, is_low(s, row, kind, x), bit);
+        acting = with_bit(acting, acts(table, s, row, kind, x, &firsts, k), bit);
+        low = with_bit(low, is_low(table, s, row, kind, x), bit);
         bit = bit * 2;
         k += 1;
     }
+    let acting_set = acting as u32;
+    let low_set = low as u32;
     Sets {
-        acting: acting as u32,
-        low: low as u32,
+        acting: acting_set,
+        low: low_set,
     }
 }
 
 // The governing number with the sets of its row.
-fn extreme_in(s: Settings, kinds: &[u8], e: &[i64], best: Best) -> Extreme
-    requires { ⌜ (best .row < rows) × CasesInRange (now kinds) (now e) ⌝ }
+fn extreme_in(table: &RowTable, s: Settings, kinds: &[u8], e: &[i64], best: Best) -> Extreme
+    requires { ⌜ (best .row < rows) × CasesInRange (now kinds) (now e) × (now table ≡ rowTable) ⌝ }
     ensures { λ r. ⌜ r ≡ extremeIn s (kindOf (now (kinds .entry))) (listed (now (e .entry))) best ⌝ }
 {
     let row = best.row;
-    let sets = sets_of(s, row, kinds, e);
+    let sets = sets_of(table, s, row, kinds, e);
     Extreme {
         value: best.value,
         row,
@@ -383,23 +397,29 @@ fn unit(component: usize, sign: i64) -> Weights
 }
 
 // The greatest of the weighed effects, over all admissible combinations.
-fn greatest(s: Settings, kinds: &[u8], effects: &[i16], w: Weights) -> Extreme
-    requires { ⌜ StationInRange (now kinds) (now effects) × WeightsInRange w ⌝ }
+fn greatest(table: &RowTable, s: Settings, kinds: &[u8], effects: &[i16], w: Weights) -> Extreme
+    requires { ⌜ StationInRange (now kinds) (now effects) × WeightsInRange w × (now table ≡ rowTable) ⌝ }
     ensures { λ r. ⌜ r ≡ extremeOf s (kindOf (now (kinds .entry))) (weighed w (effectOf (now (effects .entry)))) ⌝ }
 {
     let mut e = [0i64; 32];
     weigh(&mut e, effects, w);
-    let best = governing(s, kinds, &e);
-    extreme_in(s, kinds, &e, best)
+    let best = governing(table, s, kinds, &e);
+    extreme_in(table, s, kinds, &e, best)
 }
 
-// The maximum and the minimum of a component.
-pub fn extremes_of(s: Settings, kinds: &[u8], effects: &[i16], component: usize) -> Extremes
-    requires { ⌜ StationInRange (now kinds) (now effects) × (component < 3) ⌝ }
+// The maximum and the minimum of a component, by the table lent.
+fn extremes_by(
+    table: &RowTable,
+    s: Settings,
+    kinds: &[u8],
+    effects: &[i16],
+    component: usize,
+) -> Extremes
+    requires { ⌜ StationInRange (now kinds) (now effects) × (component < 3) × (now table ≡ rowTable) ⌝ }
     ensures { λ r. ⌜ r ≡ extremesOf s (kindOf (now (kinds .entry))) (λ k. effectOf (now (effects .entry)) k component) ⌝ }
 {
-    let maximum = greatest(s, kinds, effects, unit(component, 1));
-    let below = greatest(s, kinds, effects, unit(component, -1));
+    let maximum = greatest(table, s, kinds, effects, unit(component, 1));
+    let below = greatest(table, s, kinds, effects, unit(component, -1));
     let value = integers::negated(below.value);
     let minimum = Extreme {
         value,
@@ -408,6 +428,15 @@ pub fn extremes_of(s: Settings, kinds: &[u8], effects: &[i16], component: usize)
         low: below.low,
     };
     Extremes { maximum, minimum }
+}
+
+// The maximum and the minimum of a component.
+pub fn extremes_of(s: Settings, kinds: &[u8], effects: &[i16], component: usize) -> Extremes
+    requires { ⌜ StationInRange (now kinds) (now effects) × (component < 3) ⌝ }
+    ensures { λ r. ⌜ r ≡ extremesOf s (kindOf (now (kinds .entry))) (λ k. effectOf (now (effects .entry)) k component) ⌝ }
+{
+    let table = standard::row_table();
+    extremes_by(&table, s, kinds, effects, component)
 }
 
 // A weight, with a minus sign or without.
@@ -434,13 +463,20 @@ fn pattern_weights(p: Capacities, pattern: usize) -> Weights
 }
 
 // The governing row of a pattern of signs.
-fn pattern_best(s: Settings, kinds: &[u8], effects: &[i16], p: Capacities, pattern: usize) -> Best
-    requires { ⌜ StationInRange (now kinds) (now effects) × CapacitiesInRange p ⌝ }
+fn pattern_best(
+    table: &RowTable,
+    s: Settings,
+    kinds: &[u8],
+    effects: &[i16],
+    p: Capacities,
+    pattern: usize,
+) -> Best
+    requires { ⌜ StationInRange (now kinds) (now effects) × CapacitiesInRange p × (now table ≡ rowTable) ⌝ }
     ensures { λ r. ⌜ r ≡ patternBest s (kindOf (now (kinds .entry))) (effectOf (now (effects .entry))) p pattern ⌝ }
 {
     let mut e = [0i64; 32];
     weigh(&mut e, effects, pattern_weights(p, pattern));
-    governing(s, kinds, &e)
+    governing(table, s, kinds, &e)
 }
 
 // The higher of the pattern held and another.
@@ -456,33 +492,39 @@ fn higher(q: Peak, pattern: usize, best: Best) -> Peak
 }
 
 // The pattern of signs with the greatest numerator.
-fn peak_of(s: Settings, kinds: &[u8], effects: &[i16], p: Capacities) -> Peak
-    requires { ⌜ StationInRange (now kinds) (now effects) × CapacitiesInRange p ⌝ }
+fn peak_of(table: &RowTable, s: Settings, kinds: &[u8], effects: &[i16], p: Capacities) -> Peak
+    requires { ⌜ StationInRange (now kinds) (now effects) × CapacitiesInRange p × (now table ≡ rowTable) ⌝ }
     ensures { λ r. ⌜ r ≡ peakOf (patternBest s (kindOf (now (kinds .entry))) (effectOf (now (effects .entry))) p) 7 ⌝ }
 {
     let mut q = Peak {
         pattern: 0,
-        best: pattern_best(s, kinds, effects, p, 0),
+        best: pattern_best(table, s, kinds, effects, p, 0),
     };
     let mut i: usize = 1;
     while i < 8 {
-        let b = pattern_best(s, kinds, effects, p, i);
+        let b = pattern_best(table, s, kinds, effects, p, i);
         q = higher(q, i, b);
         i += 1;
     }
     q
 }
 
-// The utilisation of a station.
-pub fn utilisation_of(s: Settings, kinds: &[u8], effects: &[i16], p: Capacities) -> Utilised
-    requires { ⌜ StationInRange (now kinds) (now effects) × CapacitiesInRange p ⌝ }
+// The utilisation of a station, by the table lent.
+fn utilisation_by(
+    table: &RowTable,
+    s: Settings,
+    kinds: &[u8],
+    effects: &[i16],
+    p: Capacities,
+) -> Utilised
+    requires { ⌜ StationInRange (now kinds) (now effects) × CapacitiesInRange p × (now table ≡ rowTable) ⌝ }
     ensures { λ r. ⌜ r ≡ utilisedOf s (kindOf (now (kinds .entry))) (effectOf (now (effects .entry))) p ⌝ }
 {
-    let q = peak_of(s, kinds, effects, p);
+    let q = peak_of(table, s, kinds, effects, p);
     let best = q.best;
     let mut e = [0i64; 32];
     weigh(&mut e, effects, pattern_weights(p, q.pattern));
-    let x = extreme_in(s, kinds, &e, best);
+    let x = extreme_in(table, s, kinds, &e, best);
     let numerator = integers::magnitude(x.value);
     let denominator = denominator_of(p);
     Utilised {
@@ -502,4 +544,13 @@ fn denominator_of(p: Capacities) -> u64
     let y = p.y as u64;
     let z = p.z as u64;
     1000 * (n * y * z)
+}
+
+// The utilisation of a station.
+pub fn utilisation_of(s: Settings, kinds: &[u8], effects: &[i16], p: Capacities) -> Utilised
+    requires { ⌜ StationInRange (now kinds) (now effects) × CapacitiesInRange p ⌝ }
+    ensures { λ r. ⌜ r ≡ utilisedOf s (kindOf (now (kinds .entry))) (effectOf (now (effects .entry))) p ⌝ }
+{
+    let table = standard::row_table();
+    utilisation_by(&table, s, kinds, effects, p)
 }

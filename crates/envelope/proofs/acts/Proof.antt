@@ -12,7 +12,7 @@ use Rattle.integers.specs.Sums.{up}
 use Rattle.standard.specs.declared.Class.{Class}
 use Rattle.standard.specs.declared.Class.the-variants.{Always, Subset, OneOf, Unknown}
 use Rattle.standard.specs.Kinds.{classOf, kinds, groups}
-use Rattle.standard.specs.Rows.{rows, factorOf}
+use Rattle.standard.specs.Rows.{rows, factorOf, rowTable}
 use Rattle.standard.proofs.Facts.{group-below}
 use Rattle.optimum.specs.Row.{actsBy, groupBy, groupOf}
 use Rattle.envelope.specs.Sums.{actsAt}
@@ -43,8 +43,8 @@ acts-of v q e = rw (class-told v q e)
 
 -- the factor is asked of a kind whose class is known
 asked : (v : tie.After-class-of) (q : Class) → v .class-of .result ≡ q → T (known q) →
-    let a = v .before .before .args in (a .row < rows) × (0 < a .kind) × (a .kind < kinds)
-asked v q e t = let s = v .before .before in (s .pre .0, some-kind (s .args .kind) q (class-told v q e) t, s .pre .1)
+    let a = v .before .before .args in (a .row < rows) × (0 < a .kind) × (a .kind < kinds) × (a .table .now ≡ rowTable)
+asked v q e t = let s = v .before .before in (s .pre .0, some-kind (s .args .kind) q (class-told v q e) t, s .pre .1, s .pre .3)
 
 class-of-requires : tie.Need-class-of-requires
 class-of-requires c κs = search needs

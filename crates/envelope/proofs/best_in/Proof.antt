@@ -16,10 +16,10 @@ use Rattle.envelope.proofs.best_in.Statement.{statement}
 use Rattle.envelope.proofs.best_in.Tie as tie
 
 abbrev Inv-loop : tie.InvT-loop
-Inv-loop s sums b₀ row₀ to b row = (to ≤ rows) × (row₀ ≤ row) × (row - row₀ ≤ to - row₀) × (b ≡ bestFrom (λ r. valueBy s r sums kinds) b₀ row₀ (row - row₀))
+Inv-loop table s sums b₀ row₀ to b row = (to ≤ rows) × (row₀ ≤ row) × (row - row₀ ≤ to - row₀) × (b ≡ bestFrom (λ r. valueBy s r sums kinds) b₀ row₀ (row - row₀))
 
 abbrev μ-loop : tie.MeasureT-loop
-μ-loop s sums b₀ row₀ to b row = to - row
+μ-loop table s sums b₀ row₀ to b row = to - row
 
 -- the values of the rows, by the sums
 abbrev values : (c : tie.Start Inv-loop μ-loop) → ℕ → ℤ
@@ -42,7 +42,7 @@ loop-holds : tie.Need-loop-holds Inv-loop μ-loop
 loop-holds c = (c .pre .0, omega arith, omega arith, none (values c) (c .args .best) (c .args .p .from))
 
 row-value-requires : tie.Need-row-value-requires Inv-loop μ-loop
-row-value-requires c κs = (omega arith, c .before .before .pre .1)
+row-value-requires c κs = (omega arith, c .before .before .pre .1, c .before .before .pre .2)
 
 better-requires : tie.Need-better-requires Inv-loop μ-loop
 better-requires c κs = search needs

@@ -35,15 +35,15 @@ slice-aggregate-row-value c = search needs
 bounded : (c : tie.After-sums-of) → Bounded (c .sums-of .result)
 bounded c =
     let s = c .before .before in
-    bounded-by (s .args .kinds .now) (s .args .e .now) (c .sums-of .result) (s .pre) (c .sums-of .ensures)
+    bounded-by (s .args .kinds .now) (s .args .e .now) (c .sums-of .result) (s .pre .0) (c .sums-of .ensures)
 
 row-value-requires : tie.Need-row-value-requires
 row-value-requires c κs =
     let p = c .before .before in
-    (omega (arith, ap (λ (x : Span). x .from) (p .plain-rows .ensures), plain-from (p .before .before .before .args .s)), bounded (p .before))
+    (omega (arith, ap (λ (x : Span). x .from) (p .plain-rows .ensures), plain-from (p .before .before .before .args .s)), bounded (p .before), p .before .before .before .pre .1)
 
-add-t15 : tie.Need-add-t15
-add-t15 c =
+add-next : tie.Need-add-next
+add-next c =
     let p = c .before .before .before in
     omega (arith, ap (λ (x : Span). x .from) (p .plain-rows .ensures), plain-from (p .before .before .before .args .s))
 
@@ -53,7 +53,7 @@ slice-aggregate-best-in c = search needs
 best-in-requires : tie.Need-best-in-requires
 best-in-requires c κs =
     let p = c .before .before .before .before in
-    (omega (arith, ap (λ (x : Span). x .to) (p .plain-rows .ensures), plain-below (p .before .before .before .args .s)), bounded (p .before))
+    (omega (arith, ap (λ (x : Span). x .to) (p .plain-rows .ensures), plain-below (p .before .before .before .args .s)), bounded (p .before), p .before .before .before .pre .1)
 
 slice-aggregate-best-in-2 : tie.Need-slice-aggregate-best-in-2
 slice-aggregate-best-in-2 c = search needs
@@ -61,7 +61,7 @@ slice-aggregate-best-in-2 c = search needs
 best-in-requires-2 : tie.Need-best-in-requires-2
 best-in-requires-2 c κs =
     let q = c .before .before .before .before .before in
-    (omega (arith, ap (λ (x : Span). x .to) (q .flood-rows .ensures), flood-below (q .before .before .before .before .args .s)), bounded (q .before .before))
+    (omega (arith, ap (λ (x : Span). x .to) (q .flood-rows .ensures), flood-below (q .before .before .before .before .args .s)), bounded (q .before .before), q .before .before .before .before .pre .1)
 
 -- the two spans one after the other
 both-spans : (s : Settings) (v : ℕ → ℤ) (p q : Span) (x : ℤ) (b r : Best) → p ≡ plainRows s → q ≡ floodRows s → x ≡ v (p .from) →
@@ -85,7 +85,7 @@ returns c =
     let e = listed (s .args .e .now) in
     both-spans (s .args .s) (λ row. valueBy (s .args .s) row sums kinds) (p .plain-rows .result) (q .flood-rows .result) _ (b .best-in .result) (c .best-in2 .result)
     (p .plain-rows .ensures) (q .flood-rows .ensures) (read (x .row-value .result) (x .row-value .ok) ∙ x .row-value .ensures) (b .best-in .ensures) (c .best-in2 .ensures)
-    ∙ ap (bestOf (s .args .s)) (λ i row. value-is sums kind e (m .sums-of .ensures) (s .args .s) row (s .pre .kinds-range) i)
+    ∙ ap (bestOf (s .args .s)) (λ i row. value-is sums kind e (m .sums-of .ensures) (s .args .s) row (s .pre .0 .kinds-range) i)
 
 pub governing-spec : {M : Type 1} → statement M
 governing-spec =
@@ -96,7 +96,7 @@ governing-spec =
     flood-rows-requires
     slice-aggregate-row-value
     row-value-requires
-    add-t15
+    add-next
     slice-aggregate-best-in
     best-in-requires
     slice-aggregate-best-in-2

@@ -28,7 +28,7 @@ in-range c =
     cases-in-range (s .args .kinds .now) (s .args .effects .now) (c .weigh .last .0) (s .args .w) (s .pre .0) (s .pre .1) (c .weigh .ensures)
 
 governing-requires : tie.Need-governing-requires
-governing-requires c κs = in-range (c .before .before)
+governing-requires c κs = (in-range (c .before .before), c .before .before .before .before .before .pre .2)
 
 slice-aggregate-extreme-in : tie.Need-slice-aggregate-extreme-in
 slice-aggregate-extreme-in c = search needs
@@ -38,7 +38,7 @@ extreme-in-requires c κs =
     let g = c .before in
     let w = g .before .before .before in
     let s = w .before .before .before in
-    (subst (λ (b : Best). b .row < rows) (sym (g .governing .ensures)) (row-below (s .args .s) (kindOf (s .args .kinds .now)) (listed (w .weigh .last .0))), in-range w)
+    (subst (λ (b : Best). b .row < rows) (sym (g .governing .ensures)) (row-below (s .args .s) (kindOf (s .args .kinds .now)) (listed (w .weigh .last .0))), in-range w, s .pre .2)
 
 returns : tie.Need-returns
 returns c =

@@ -11,10 +11,10 @@ use Rattle.envelope.proofs.leaders.Statement.{statement}
 use Rattle.envelope.proofs.leaders.Tie as tie
 
 abbrev Inv-loop : tie.InvT-loop
-Inv-loop s row kinds e worths₀ firsts₀ k₀ worths firsts k = (k ≤ cases) × Leading worths firsts s row (kindOf kinds) (listed e) k
+Inv-loop table s row kinds e worths₀ firsts₀ k₀ worths firsts k = (k ≤ cases) × Leading worths firsts s row (kindOf kinds) (listed e) k
 
 abbrev μ-loop : tie.MeasureT-loop
-μ-loop s row kinds e worths₀ firsts₀ k₀ worths firsts k = cases - k
+μ-loop table s row kinds e worths₀ firsts₀ k₀ worths firsts k = cases - k
 
 loop-holds : tie.Need-loop-holds Inv-loop μ-loop
 loop-holds c = let a = c .before .args in (omega arith, none-leads (a .s) (a .row) (kindOf (a .kinds .now)) (listed (a .e .now)))
@@ -47,7 +47,7 @@ with-case-requires c κs =
     let k = h .loop .k in
     let r = s .pre .1 in
     let back = effect-back (s .args .kinds .now) (s .args .e .now) r k in
-    (s .pre .0, r .kinds-range k, rw back (r .effects-range k), h .loop .inv .1 .worths-long, h .loop .inv .1 .firsts-long)
+    (s .pre .0, r .kinds-range k, rw back (r .effects-range k), h .loop .inv .1 .worths-long, h .loop .inv .1 .firsts-long, s .pre .2)
 
 add-k : tie.Need-add-k Inv-loop μ-loop
 add-k c = search needs

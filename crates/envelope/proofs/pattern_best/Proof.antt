@@ -35,7 +35,7 @@ governing-requires c κs =
     let w = c .before .before in
     let p = w .before in
     let s = p .before .before .before in
-    cases-in-range (s .args .kinds .now) (s .args .effects .now) (w .weigh .last .0) (p .pattern-weights .result) (s .pre .0) (in-range p) (w .weigh .ensures)
+    (cases-in-range (s .args .kinds .now) (s .args .effects .now) (w .weigh .last .0) (p .pattern-weights .result) (s .pre .0) (in-range p) (w .weigh .ensures), s .pre .2)
 
 returns : tie.Need-returns
 returns c =

@@ -12,10 +12,10 @@ use Rattle.envelope.proofs.peak_of.Statement.{statement}
 use Rattle.envelope.proofs.peak_of.Tie as tie
 
 abbrev Inv-loop : tie.InvT-loop
-Inv-loop s kinds effects p q₀ i₀ q i = (0 < i) × (i ≤ 8) × (q ≡ peakOf (patternBest s (kindOf kinds) (effectOf effects) p) (i - 1))
+Inv-loop table s kinds effects p q₀ i₀ q i = (0 < i) × (i ≤ 8) × (q ≡ peakOf (patternBest s (kindOf kinds) (effectOf effects) p) (i - 1))
 
 abbrev μ-loop : tie.MeasureT-loop
-μ-loop s kinds effects p q₀ i₀ q i = 8 - i
+μ-loop table s kinds effects p q₀ i₀ q i = 8 - i
 
 pattern-best-requires : tie.Need-pattern-best-requires Inv-loop μ-loop
 pattern-best-requires c κs = c .before .pre

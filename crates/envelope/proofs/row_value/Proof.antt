@@ -14,10 +14,10 @@ use Rattle.envelope.proofs.row_value.Statement.{statement}
 use Rattle.envelope.proofs.row_value.Tie as tie
 
 abbrev Inv-loop : tie.InvT-loop
-Inv-loop s row sums leads₀ total₀ kind₀ leads total kind = (0 < kind) × (kind ≤ 12) × (toZ w64 total ≡ valueBy s row sums kind) × Led leads s row sums kind
+Inv-loop table s row sums leads₀ total₀ kind₀ leads total kind = (0 < kind) × (kind ≤ 12) × (toZ w64 total ≡ valueBy s row sums kind) × Led leads s row sums kind
 
 abbrev μ-loop : tie.MeasureT-loop
-μ-loop s row sums leads₀ total₀ kind₀ leads total kind = 12 - kind
+μ-loop table s row sums leads₀ total₀ kind₀ leads total kind = 12 - kind
 
 loop-holds : tie.Need-loop-holds Inv-loop μ-loop
 loop-holds c =
@@ -31,7 +31,7 @@ with-kind-requires : tie.Need-with-kind-requires Inv-loop μ-loop
 with-kind-requires c κs =
     let l = c .before .before in
     let i = l .loop .inv in
-    record { row-below = l .before .pre .0; kind-some = i .0; kind-below = omega arith; bounded = l .before .pre .1; value = i .2; led = i .3 }
+    record { row-below = l .before .pre .0; kind-some = i .0; kind-below = omega arith; bounded = l .before .pre .1; table-is = l .before .pre .2; value = i .2; led = i .3 }
 
 add-kind : tie.Need-add-kind Inv-loop μ-loop
 add-kind c = omega arith

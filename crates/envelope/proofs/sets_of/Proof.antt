@@ -16,11 +16,11 @@ use Rattle.envelope.proofs.sets_of.Statement.{statement}
 use Rattle.envelope.proofs.sets_of.Tie as tie
 
 abbrev Inv-loop : tie.InvT-loop
-Inv-loop s row kinds e firsts acting₀ low₀ bit₀ k₀ acting low bit k =
+Inv-loop table s row kinds e firsts acting₀ low₀ bit₀ k₀ acting low bit k =
     (k ≤ cases) × (bit ≡ 2 ^ k) × (acting ≡ maskOf k (actsIn s row (kindOf kinds) (listed e))) × (low ≡ maskOf k (lowIn s row (kindOf kinds) (listed e)))
 
 abbrev μ-loop : tie.MeasureT-loop
-μ-loop s row kinds e firsts acting₀ low₀ bit₀ k₀ acting low bit k = cases - k
+μ-loop table s row kinds e firsts acting₀ low₀ bit₀ k₀ acting low bit k = cases - k
 
 -- the sets of the definition
 abbrev acting : tie.Start Inv-loop μ-loop → ℕ → Bool
@@ -81,7 +81,7 @@ acts-requires c κs =
     let h = c .before .before .before .before in
     let v = h .before in
     let s = v .before .before in
-    (s .pre .0, s .pre .1 .kinds-range (h .loop .k), v .leaders .ensures .long)
+    (s .pre .0, s .pre .1 .kinds-range (h .loop .k), v .leaders .ensures .long, s .pre .2)
 
 with-bit-requires : tie.Need-with-bit-requires Inv-loop μ-loop
 with-bit-requires c κs =
@@ -92,7 +92,7 @@ is-low-requires : tie.Need-is-low-requires Inv-loop μ-loop
 is-low-requires c κs =
     let h = c .before .before .before .before .before .before in
     let s = h .before .before .before in
-    (s .pre .0, s .pre .1 .kinds-range (h .loop .k))
+    (s .pre .0, s .pre .1 .kinds-range (h .loop .k), s .pre .2)
 
 with-bit-requires-2 : tie.Need-with-bit-requires-2 Inv-loop μ-loop
 with-bit-requires-2 c κs =
@@ -125,13 +125,13 @@ loop-again c =
       one-bit-more (lowered s) (i .k) (i .low) (i .inv .3) (i .bit) (l .is-low .result) (c .with-bit2 .result) (i .inv .1) (low-told l) (c .with-bit2 .ensures),
     )
 
-cast-t21 : tie.Need-cast-t21 Inv-loop μ-loop
-cast-t21 c =
+cast-acting-set : tie.Need-cast-acting-set Inv-loop μ-loop
+cast-acting-set c =
     let h = c .before in
     set-fits (acting (h .before .before .before)) (h .loop .k) (h .loop .acting) (h .loop .inv .2) (h .loop .inv .0) (c .loop-test .left)
 
-cast-t22 : tie.Need-cast-t22 Inv-loop μ-loop
-cast-t22 c =
+cast-low-set : tie.Need-cast-low-set Inv-loop μ-loop
+cast-low-set c =
     let h = c .before in
     set-fits (lowered (h .before .before .before)) (h .loop .k) (h .loop .low) (h .loop .inv .3) (h .loop .inv .0) (c .loop-test .left)
 
@@ -166,6 +166,6 @@ sets-of-spec =
     add-k
     loop-less
     loop-again
-    cast-t21
-    cast-t22
+    cast-acting-set
+    cast-low-set
     returns)

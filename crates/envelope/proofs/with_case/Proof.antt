@@ -69,7 +69,7 @@ full-requires : tie.Need-full-requires
 full-requires c κs =
     let q = c .before in
     let s = q .before .before .before .before in
-    (s .pre .0, some-kind (s .args .kind) (OneOf (q .q .given .0 .0)) (class-told q) tt, s .pre .1)
+    (s .pre .0, some-kind (s .args .kind) (OneOf (q .q .given .0 .0)) (class-told q) tt, s .pre .1, s .pre .5)
 
 scaled-requires : tie.Need-scaled-requires
 scaled-requires c κs =

@@ -1,4 +1,4 @@
--- `extremes_of` gives the maximum and the minimum of a component, the minimum by negation.
+-- `extremes_by` gives the maximum and the minimum of a component, the minimum by negation.
 -- Assumes nothing.
 use borrow.Author.Needs.{needs}
 use native.Mathlib.Omega.{arith}
@@ -18,8 +18,8 @@ use Rattle.envelope.specs.Sums.{WeightsInRange}
 use Rattle.envelope.proofs.Limits.{value-fits}
 use Rattle.envelope.proofs.Patterns.{unit-in-range, unit-weighed}
 use Rattle.envelope.proofs.Weighing.{weighed-most}
-use Rattle.envelope.proofs.extremes_of.Statement.{statement}
-use Rattle.envelope.proofs.extremes_of.Tie as tie
+use Rattle.envelope.proofs.extremes_by.Statement.{statement}
+use Rattle.envelope.proofs.extremes_by.Tie as tie
 
 unit-requires : tie.Need-unit-requires
 unit-requires c κs = search needs
@@ -27,7 +27,7 @@ unit-requires c κs = search needs
 greatest-requires : tie.Need-greatest-requires
 greatest-requires c κs =
     let s = c .before .before in
-    (s .pre .0, subst WeightsInRange (sym (c .unit .ensures)) (unit-in-range (s .args .component) (pos 1) (omega arith)))
+    (s .pre .0, subst WeightsInRange (sym (c .unit .ensures)) (unit-in-range (s .args .component) (pos 1) (omega arith)), s .pre .2)
 
 unit-requires-2 : tie.Need-unit-requires-2
 unit-requires-2 c κs = search needs
@@ -38,7 +38,7 @@ minus-in-range c =
     subst WeightsInRange (sym (c .unit2 .ensures)) (unit-in-range (s .args .component) (negsuc 0) (omega arith))
 
 greatest-requires-2 : tie.Need-greatest-requires-2
-greatest-requires-2 c κs = (c .before .before .before .before .pre .0, minus-in-range c)
+greatest-requires-2 c κs = (c .before .before .before .before .pre .0, minus-in-range c, c .before .before .before .before .pre .2)
 
 -- the maximum of the negated effects fits
 below-small : (c : tie.After-greatest2) → natAbs (c .greatest2 .result .value) < 2 ^ 63
@@ -82,5 +82,5 @@ returns c =
     (λ i. record { maximum = most i; minimum = record { value = value i; row = g .greatest2 .result .row; acting = g .greatest2 .result .acting; low = g .greatest2 .result .low } })
     ∙ (λ i. record { maximum = extremeOf (s .args .s) kind effect; minimum = record { value = negℤ (least i .value); row = least i .row; acting = least i .acting; low = least i .low } })
 
-pub extremes-of-spec : {M : Type 1} → statement M
-extremes-of-spec = tie.close (tie.spec unit-requires greatest-requires unit-requires-2 greatest-requires-2 negated-requires returns)
+pub extremes-by-spec : {M : Type 1} → statement M
+extremes-by-spec = tie.close (tie.spec unit-requires greatest-requires unit-requires-2 greatest-requires-2 negated-requires returns)

@@ -1,4 +1,4 @@
--- `utilisation_of` takes the best pattern, the sets of its governing row, and the verdict.
+-- `utilisation_by` takes the best pattern, the sets of its governing row, and the verdict.
 -- Assumes nothing.
 use borrow.Author.Needs.{needs}
 use Prim.Native.Nat.{ℕ, _<_, _^_}
@@ -21,8 +21,8 @@ use Rattle.envelope.proofs.Limits.{row-below, value-fits}
 use Rattle.envelope.proofs.Patterns.{pattern-in-range}
 use Rattle.envelope.proofs.Utilisation.{peak-own}
 use Rattle.envelope.proofs.Weighing.{cases-in-range, weighed-most, listed-is}
-use Rattle.envelope.proofs.utilisation_of.Statement.{statement}
-use Rattle.envelope.proofs.utilisation_of.Tie as tie
+use Rattle.envelope.proofs.utilisation_by.Statement.{statement}
+use Rattle.envelope.proofs.utilisation_by.Tie as tie
 
 peak-of-requires : tie.Need-peak-of-requires
 peak-of-requires c κs = search needs
@@ -64,6 +64,7 @@ extreme-in-requires c κs =
     let s = p .before .before .before .before .before in (
       subst (λ (b : Best). b .row < rows) (sym (best-is p)) (row-below (s .args .s) (kindOf (s .args .kinds .now)) (weighed (p .pattern-weights .result) (effectOf (s .args .effects .now)))),
       cases-in-range (s .args .kinds .now) (s .args .effects .now) (w .weigh .last .0) (p .pattern-weights .result) (s .pre .0) (in-range p) (w .weigh .ensures),
+      s .pre .2,
     )
 
 value-small : (c : tie.After-extreme-in) → natAbs (c .extreme-in .result .value) < 2 ^ 63
@@ -103,8 +104,8 @@ returns c =
     m .magnitude .ensures ∙ ap natAbs (back (x .extreme-in .result .value) (value-small x) ∙ ap (λ (y : Extreme). y .value) is) in
     λ i. record { numerator = n i; denominator = c .denominator-of .ensures i; pass = leb (n i) (c .denominator-of .ensures i); row = is i .row; acting = is i .acting; low = is i .low }
 
-pub utilisation-of-spec : {M : Type 1} → statement M
-utilisation-of-spec =
+pub utilisation-by-spec : {M : Type 1} → statement M
+utilisation-by-spec =
     tie.close
     (tie.spec
     peak-of-requires
