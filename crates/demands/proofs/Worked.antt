@@ -10,6 +10,7 @@ use lib.Dec.{T, eqb, leb, eqb→eq, leb→le}
 use lib.IntN.{ℤ, pos, negsuc, negℤ}
 use lib.ListN.{length, List·getD-eq-default}
 use Rattle.integers.specs.Sums.{sum, most}
+use Rattle.integers.proofs.Tests.{and-left, and-right}
 use Rattle.standard.specs.declared.Settings.{Settings}
 use Rattle.standard.specs.declared.Capacities.{Capacities}
 use Rattle.standard.specs.Kinds.{classOf}
@@ -49,14 +50,6 @@ alike-eq true false t = absurd t
 alike-eq false true t = absurd t
 alike-eq false false t = refl
 
-left : (a b : Bool) → T (a && b) → T a
-left true b t = tt
-left false b t = t
-
-right : (a b : Bool) → T (a && b) → T b
-right true b t = t
-right false b t = absurd t
-
 known : Settings → Bool
 known s = eqb (s .method) 1 || eqb (s .method) 2
 
@@ -75,12 +68,12 @@ fair f = known (f .settings) && leb (length (f .kinds)) cases
 module _ (f : Frame) (ok : T (fair f)) where
   method : (f .settings .method ≡ 1) ⊎ (f .settings .method ≡ 2)
   unfolding fair
-  method = known-method (f .settings) (left (known (f .settings)) (leb (length (f .kinds)) cases) ok)
+  method = known-method (f .settings) (and-left (known (f .settings)) (leb (length (f .kinds)) cases) ok)
 
   empty : (k : ℕ) → cases ≤ k → kindOf (f .kinds) k ≡ 0
   unfolding fair
   empty k l =
-      let m : length (f .kinds) ≤ cases = leb→le (length (f .kinds)) cases (right (known (f .settings)) (leb (length (f .kinds)) cases) ok) in
+      let m : length (f .kinds) ≤ cases = leb→le (length (f .kinds)) cases (and-right (known (f .settings)) (leb (length (f .kinds)) cases) ok) in
       List·getD-eq-default (f .kinds) 0 (omega arith)
 
 -- the two extremes and the utilisation of a frame, as they are computed
@@ -114,21 +107,21 @@ holds f (minimum v) ok t = (
 )
 holds f (maximumInRow v row) ok t = (
   namedBy (greatest f),
-  eqb→eq (greatest f .row) row (left (eqb (greatest f .row) row) (same (greatest f .value) v) t),
+  eqb→eq (greatest f .row) row (and-left (eqb (greatest f .row) row) (same (greatest f .value) v) t),
   subst (Maximum (f .settings) (kindOf (f .kinds)) (listed (f .effects)) (namedBy (greatest f)))
-      (same-eq (greatest f .value) v (right (eqb (greatest f .row) row) (same (greatest f .value) v) t))
+      (same-eq (greatest f .value) v (and-right (eqb (greatest f .row) row) (same (greatest f .value) v) t))
       (extreme-maximum (f .settings) (kindOf (f .kinds)) (method f ok) (empty f ok) (listed (f .effects))),
 )
 holds f (utilisation p n d pass) ok t =
     let u : Utilised = used f p in
-    let r = right (eqb (u .numerator) n) (eqb (u .denominator) d && alike (u .pass) pass) t in (
+    let r = and-right (eqb (u .numerator) n) (eqb (u .denominator) d && alike (u .pass) pass) t in (
       namedIn u,
       subst (λ (b : Bool). Utilisation (f .settings) (kindOf (f .kinds)) (onlyN (f .effects)) p (namedIn u) n d b)
-          (alike-eq (u .pass) pass (right (eqb (u .denominator) d) (alike (u .pass) pass) r))
+          (alike-eq (u .pass) pass (and-right (eqb (u .denominator) d) (alike (u .pass) pass) r))
           (subst (λ (y : ℕ). Utilisation (f .settings) (kindOf (f .kinds)) (onlyN (f .effects)) p (namedIn u) n y (u .pass))
-          (eqb→eq (u .denominator) d (left (eqb (u .denominator) d) (alike (u .pass) pass) r))
+          (eqb→eq (u .denominator) d (and-left (eqb (u .denominator) d) (alike (u .pass) pass) r))
           (subst (λ (x : ℕ). Utilisation (f .settings) (kindOf (f .kinds)) (onlyN (f .effects)) p (namedIn u) x (u .denominator) (u .pass))
-          (eqb→eq (u .numerator) n (left (eqb (u .numerator) n) (eqb (u .denominator) d && alike (u .pass) pass) t))
+          (eqb→eq (u .numerator) n (and-left (eqb (u .numerator) n) (eqb (u .denominator) d && alike (u .pass) pass) t))
           (utilisation-greatest (f .settings) (kindOf (f .kinds)) (method f ok) (empty f ok) (onlyN (f .effects)) p))),
     )
 
@@ -140,9 +133,9 @@ each-holds : (xs : List Entry) → T (checks xs) → All xs
 unfolding checks
 each-holds [] t = tt
 each-holds (x ∷ xs) t =
-    let h = left (fair (x .of) && meets (x .of) (x .claim)) (checks xs) t in (
-      holds (x .of) (x .claim) (left (fair (x .of)) (meets (x .of) (x .claim)) h) (right (fair (x .of)) (meets (x .of) (x .claim)) h),
-      each-holds xs (right (fair (x .of) && meets (x .of) (x .claim)) (checks xs) t),
+    let h = and-left (fair (x .of) && meets (x .of) (x .claim)) (checks xs) t in (
+      holds (x .of) (x .claim) (and-left (fair (x .of)) (meets (x .of) (x .claim)) h) (and-right (fair (x .of)) (meets (x .of) (x .claim)) h),
+      each-holds xs (and-right (fair (x .of) && meets (x .of) (x .claim)) (checks xs) t),
     )
 
 table-checks : T (checks worked)

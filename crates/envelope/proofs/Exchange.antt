@@ -11,7 +11,7 @@ use lib.ListN.{length, getD}
 use lib.IntN.{ℤ, pos, negℤ, _-ℤ_, natAbs}
 use Rattle.integers.specs.Sums.{when, sum, most, up, down}
 use Rattle.integers.proofs.Signs.{abs-parts, neg-up, neg-down}
-use Rattle.integers.proofs.Sums.{eqb-cases, sum-same, sum-mono, sum-only, sum-swap, sum-times, sum-most, most-ge, most-le, most-same, most-times}
+use Rattle.integers.proofs.Sums.{when-le, eqb-cases, sum-same, sum-mono, sum-only, sum-swap, sum-times, sum-most, most-ge, most-le, most-same, most-times}
 use Rattle.standard.specs.declared.Settings.{Settings}
 use Rattle.standard.specs.Kinds.{kinds, groups}
 use Rattle.standard.specs.Rows.{factorOf}
@@ -19,10 +19,6 @@ use Rattle.standard.specs.Combination.{cases}
 use Rattle.optimum.specs.Row.{greatestOf, leastOf, groupOf, rowMaximum, worthOf}
 use Rattle.envelope.specs.Range.{kindOf, listed}
 use Rattle.envelope.specs.Sums.{plusAt, minusAt, bestAt, ofKind, Summed, CasesInRange, Bounded, effectMost, ofGroup, gainBy, lossBy, valueBy}
-
-pub when-le : (t : Bool) (x : ℕ) → when t x ≤ x
-when-le true x = omega arith
-when-le false x = omega arith
 
 module _ (n K : ℕ) (kind p : ℕ → ℕ) (below : (k : ℕ) → kind k < K) where
   -- a weighted sum over the kinds is one over the cases

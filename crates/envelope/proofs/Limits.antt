@@ -8,7 +8,7 @@ use lib.Dec.{eqb}
 use lib.IntN.{ℤ, pos, negℤ, natAbs}
 use Rattle.integers.specs.Sums.{when, sum, most, up, down}
 use Rattle.integers.proofs.Signs.{abs-add, abs-negated, abs-parts}
-use Rattle.integers.proofs.Sums.{sum-most, most-le}
+use Rattle.integers.proofs.Sums.{when-le, sum-most, most-le}
 use Rattle.standard.specs.declared.Settings.{Settings}
 use Rattle.standard.specs.Kinds.{classOf, groups}
 use Rattle.standard.specs.Rows.{rows, factorOf}
@@ -18,7 +18,6 @@ use Rattle.optimum.specs.Row.{greatestOf, leastOf, lowerOf, groupOf, worthOf, g
 use Rattle.envelope.specs.declared.Best.{Best}
 use Rattle.envelope.specs.Envelope.{governingOf}
 use Rattle.envelope.specs.Sums.{effectMost}
-use Rattle.envelope.proofs.Exchange.{when-le}
 use Rattle.envelope.proofs.Rows.{best-some}
 use Rattle.envelope.proofs.Value.{greatest-most, least-most}
 

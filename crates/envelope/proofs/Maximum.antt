@@ -24,6 +24,7 @@ use Rattle.optimum.proofs.RowBound.{row-bound}
 use Rattle.optimum.proofs.RowReached.{row-reached}
 use Rattle.envelope.specs.declared.Best.{Best}
 use Rattle.envelope.specs.declared.Extreme.{Extreme}
+use Rattle.envelope.specs.declared.Extremes.{Extremes}
 use Rattle.envelope.specs.declared.Weights.{Weights}
 use Rattle.envelope.specs.Envelope.{governingOf, extremeIn, extremeOf, negatedOf, extremesOf, weighed}
 use Rattle.envelope.proofs.Rows.{BestOpen, best-open}
@@ -101,3 +102,9 @@ module _ (s : Settings) (kind : ℕ → ℕ) (m : (s .method ≡ 1) ⊎ (s .meth
     where
       flip : (a v : ℤ) → negℤ a ≤ℤ v → negℤ v ≤ℤ a
       flip a v l = le-in (negℤ v) a (omega (arith, le-out (negℤ a) v l, neg-up a, neg-down a, neg-up v, neg-down v))
+
+  -- both of them, of what `extremes_of` gives
+  pub extremes-governing : (e : ℕ → ℤ) → let x : Extremes = extremesOf s kind e in
+      Maximum s kind e (namedBy (x .maximum)) (x .maximum .value) × Minimum s kind e (namedBy (x .minimum)) (x .minimum .value)
+  unfolding extremesOf
+  extremes-governing e = (extreme-maximum e, extreme-minimum e)

@@ -9,6 +9,7 @@ use mathlib.Core.Logic.{_⊎_, inl, inr}
 use lib.Dec.{T, leb, ltb, leb→le, le→leb, ltb→lt, lt→ltb}
 use lib.IntN.{ℤ}
 use lib.Signed.{_≤ℤ_, ≤ℤ-refl, ltZ, ltZ-no}
+use Rattle.integers.proofs.Tests.{and-left, and-right, and-both, or-left, or-right, or-cases}
 use Rattle.integers.proofs.Signs.{≤-trans, less-le}
 use Rattle.standard.specs.declared.Settings.{Settings}
 use Rattle.standard.specs.declared.Span.{Span}
@@ -60,35 +61,11 @@ module _ (v : ℕ → ℤ) (P : ℕ → Type 0) where
       weaken : {x : Best} → Governs v P (λ i. (Q i ⊎ ((from ≤ i) × (i < from + n))) ⊎ (i ≡ from + n)) x → Governs v P (λ i. Q i ⊎ ((from ≤ i) × (i < from + suc n))) x
       weaken g = record { value = g .value; row = g .row; none-above = λ r q. g .none-above r (sort r q) }
 
-left : (a b : Bool) → T (a && b) → T a
-left true b t = tt
-left false b t = t
-
-right : (a b : Bool) → T (a && b) → T b
-right true b t = t
-right false b t = absurd t
-
-and-in : (a b : Bool) → T a → T b → T (a && b)
-and-in true b p q = q
-and-in false b p q = absurd p
-
-or-left : (a b : Bool) → T a → T (a || b)
-or-left true b t = tt
-or-left false b t = absurd t
-
-or-right : (a b : Bool) → T b → T (a || b)
-or-right true b t = tt
-or-right false b t = t
-
-or-cases : (a b : Bool) → T (a || b) → T a ⊎ T b
-or-cases true b t = inl tt
-or-cases false b t = inr t
-
 within-in : (p : Span) (r : ℕ) → p .from ≤ r → r < p .to → T (within p r)
-within-in p r a b = and-in (leb (p .from) r) (ltb r (p .to)) (le→leb (p .from) r a) (lt→ltb r (p .to) b)
+within-in p r a b = and-both (leb (p .from) r) (ltb r (p .to)) (le→leb (p .from) r a) (lt→ltb r (p .to) b)
 
 within-out : (p : Span) (r : ℕ) → T (within p r) → (p .from ≤ r) × (r < p .to)
-within-out p r t = (leb→le (p .from) r (left (leb (p .from) r) (ltb r (p .to)) t), ltb→lt r (p .to) (right (leb (p .from) r) (ltb r (p .to)) t))
+within-out p r t = (leb→le (p .from) r (and-left (leb (p .from) r) (ltb r (p .to)) t), ltb→lt r (p .to) (and-right (leb (p .from) r) (ltb r (p .to)) t))
 
 pub record BestOpen (s : Settings) (v : ℕ → ℤ) (b : Best) : Type 0 where
   pub value : b .value ≡ v (b .row)

@@ -1,3 +1,4 @@
+pub mod Tests
 pub mod Signs
 pub mod Machine
 pub mod Sums

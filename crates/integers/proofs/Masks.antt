@@ -9,10 +9,7 @@ use mathlib.Core.Path.{_≡_, sym, ap, _∙_, subst}
 use lib.Dec.{eqb}
 use lib.Pow.{high, pow-add, pow-pos, pow-mono}
 use Rattle.integers.specs.Sums.{when, sum, maskOf}
-
-when-le : (t : Bool) (x : ℕ) → when t x ≤ x
-when-le true x = omega arith
-when-le false x = omega arith
+use Rattle.integers.proofs.Sums.{when-le}
 
 pub mask-below : (n : ℕ) (p : ℕ → Bool) → maskOf n p < 2 ^ n
 unfolding maskOf sum

@@ -12,6 +12,10 @@ use borrow.Author.Tests.{eq-eqb, ne-eqb, lt-ltb, le-ltb}
 use Rattle.integers.specs.Sums.{when, sum, sumℤ, most, mostAt, up, down}
 use Rattle.integers.proofs.Signs.{add-parts, mul-up, mul-down}
 
+pub when-le : (t : Bool) (x : ℕ) → when t x ≤ x
+when-le true x = omega arith
+when-le false x = omega arith
+
 -- by cases on a test
 pub eqb-cases {ℓ} : (a b : ℕ) (P : Bool → Type ℓ) → (a ≡ b → P true) → ((a ≡ b → ⊥) → P false) → P (eqb a b)
 eqb-cases a b P f g = go (ℕ-discrete a b)

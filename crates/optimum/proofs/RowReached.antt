@@ -8,6 +8,7 @@ use lib.Dec.{T, eqb, ltb, eqb→eq, ltb→lt}
 use lib.IntN.{ℤ, pos, negsuc, negℤ, _*ℤ_}
 use borrow.Author.Tests.{eq-eqb, lt-ltb, le-ltb}
 use Rattle.integers.specs.Sums.{when, sumℤ, up, down}
+use Rattle.integers.proofs.Tests.{and-left, and-right}
 use Rattle.integers.proofs.Signs.{eq-in, add-parts, neg-up, neg-down}
 use Rattle.integers.proofs.Sums.{eqb-cases, ltb-cases, sum-parts}
 use Rattle.standard.specs.declared.Settings.{Settings}
@@ -21,14 +22,6 @@ use Rattle.standard.proofs.Facts.{group-below}
 use Rattle.optimum.specs.Row.{leastBy, greatestBy, groupBy, lowerOf, leastOf, greatestOf, groupOf, leaderOf, gainOf, lossOf, rowMaximum, actsBy, actsIn, lowIn, bestIn}
 use Rattle.optimum.proofs.Attained.{attained-up, attained-down}
 use Rattle.optimum.proofs.RowBound.{apart, earth-always, low-least}
-
-left : (a b : Bool) → T (a && b) → T a
-left true b t = tt
-left false b t = t
-
-right : (a b : Bool) → T (a && b) → T b
-right true b t = t
-right false b t = absurd t
 
 -- the factor that the best combination gives a case: x says that the kind has a factor, p and d that the effect is above or below 0
 abbrev given : Class → (x p first h d : Bool) → (low f : ℕ) → ℕ
@@ -152,18 +145,18 @@ module _ (s : Settings) (row : ℕ) (kind : ℕ → ℕ) (e : ℕ → ℤ) where
   unfolding actsIn groupOf
   leads-acting g k q t =
       eqb→eq (leaderOf s row kind e g) k
-      (left (eqb (leaderOf s row kind e g) k) (ltb 0 (up (e k))) (rw q at (right (ltb 0 (f k)) (actsBy (classOf (kind k)) (ltb 0 (up (e k))) (first k)) t)))
+      (and-left (eqb (leaderOf s row kind e g) k) (ltb 0 (up (e k))) (rw q at (and-right (ltb 0 (f k)) (actsBy (classOf (kind k)) (ltb 0 (up (e k))) (first k)) t)))
 
   low-factor : (k : ℕ) → T (lowIn s row kind e k) → T (isEarth k) × (0 < f k)
   unfolding lowIn
   low-factor k t = (
-    left (isEarth k) (ltb 0 (down (e k))) (right (ltb 0 (f k)) (isEarth k && ltb 0 (down (e k))) t),
-    ltb→lt 0 (f k) (left (ltb 0 (f k)) (isEarth k && ltb 0 (down (e k))) t),
+    and-left (isEarth k) (ltb 0 (down (e k))) (and-right (ltb 0 (f k)) (isEarth k && ltb 0 (down (e k))) t),
+    ltb→lt 0 (f k) (and-left (ltb 0 (f k)) (isEarth k && ltb 0 (down (e k))) t),
   )
 
   has-factor : (k : ℕ) → T (actsIn s row kind e k) → 0 < f k
   unfolding actsIn
-  has-factor k t = ltb→lt 0 (f k) (left (ltb 0 (f k)) (actsBy (classOf (kind k)) (ltb 0 (up (e k))) (first k)) t)
+  has-factor k t = ltb→lt 0 (f k) (and-left (ltb 0 (f k)) (actsBy (classOf (kind k)) (ltb 0 (up (e k))) (first k)) t)
 
   pub row-reached : T (openRow s row) → Reaches s kind e (bestIn s row kind e) (rowMaximum s row kind e)
   row-reached o =

@@ -8,6 +8,7 @@ use native.Mathlib.Nat.{add-zero, zero-add, add-suc, suc-add, le-of-suc-le-suc, 
 use native.Mathlib.Omega.{arith}
 use lib.Dec.{T}
 use lib.ListN.{getD}
+use Rattle.integers.proofs.Tests.{and-left, and-right}
 
 -- f i, f (i + 1), .., n of them
 abbrev pub tabulate {ℓ} : {A : Type ℓ} → (ℕ → A) → ℕ → ℕ → List A
@@ -30,14 +31,6 @@ same-at {A = A} f g i n k e l h =
     ∙ ap (λ (xs : List A). getD xs (k - i) (f i)) e
     ∙ from g (f i) n i (k - i) (omega arith))
 
-left : (a b : Bool) → T (a && b) → T a
-left true b t = tt
-left false b t = t
-
-right : (a b : Bool) → T (a && b) → T b
-right true b t = t
-right false b t = absurd t
-
 -- a test passes at every entry: so at every place, past the end too where the default passes
 abbrev pub all {ℓ} : {A : Type ℓ} → (A → Bool) → List A → Bool
 all f [] = true
@@ -45,8 +38,8 @@ all f (x ∷ xs) = f x && all f xs
 
 pub all-at {ℓ} : {A : Type ℓ} (f : A → Bool) (xs : List A) (d : A) → T (f d) → T (all f xs) → (k : ℕ) → T (f (getD xs k d))
 all-at f [] d e t k = e
-all-at f (x ∷ xs) d e t zero = left (f x) (all f xs) t
-all-at f (x ∷ xs) d e t (suc k) = all-at f xs d e (right (f x) (all f xs) t) k
+all-at f (x ∷ xs) d e t zero = and-left (f x) (all f xs) t
+all-at f (x ∷ xs) d e t (suc k) = all-at f xs d e (and-right (f x) (all f xs) t) k
 
 -- the same of two lists side by side, as long as each other
 abbrev pub all₂ {ℓ₁ ℓ₂} : {A : Type ℓ₁} {B : Type ℓ₂} → (A → B → Bool) → List A → List B → Bool
@@ -60,5 +53,5 @@ pub all₂-at {ℓ₁ ℓ₂} : {A : Type ℓ₁} {B : Type ℓ₂} (f : A → B
 all₂-at f [] [] d e n t k = n
 all₂-at f [] (y ∷ ys) d e n t k = absurd t
 all₂-at f (x ∷ xs) [] d e n t k = absurd t
-all₂-at f (x ∷ xs) (y ∷ ys) d e n t zero = left (f x y) (all₂ f xs ys) t
-all₂-at f (x ∷ xs) (y ∷ ys) d e n t (suc k) = all₂-at f xs ys d e n (right (f x y) (all₂ f xs ys) t) k
+all₂-at f (x ∷ xs) (y ∷ ys) d e n t zero = and-left (f x y) (all₂ f xs ys) t
+all₂-at f (x ∷ xs) (y ∷ ys) d e n t (suc k) = all₂-at f xs ys d e n (and-right (f x y) (all₂ f xs ys) t) k
