@@ -10,7 +10,8 @@ use lib.IntN.{ℤ, pos, negℤ, _+ℤ_, _-ℤ_, natAbs}
 use Rattle.integers.specs.Sums.{when, sum, most, mostAt, maskOf, up, down}
 use Rattle.standard.specs.declared.Settings.{Settings}
 use Rattle.standard.specs.Kinds.{classOf, kinds, groups, permanentEarth}
-use Rattle.standard.specs.Rows.{rows, rowTable, factorOf}
+use Rattle.standard.specs.Rows.{rows, factorOf}
+use Rattle.standard.specs.Columns.{rowTable}
 use Rattle.standard.specs.Combination.{cases}
 use Rattle.optimum.specs.Row.{greatestOf, leastOf, groupOf, worthOf, leaderOf, actsBy, actsIn, lowIn}
 use Rattle.standard.specs.declared.Class.{Class}

@@ -2,3 +2,4 @@ pub mod Kinds
 pub mod Rows
 pub mod Combination
 pub mod Governing
+pub mod Columns

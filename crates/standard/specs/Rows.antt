@@ -1,6 +1,6 @@
 -- 01, 'Lines of the standard': the factor of a kind in a row, in thousandths, and the rows that are open. 0 is no factor.
 use Prim.Native.Nat.{ℕ}
-use mathlib.Core.Bool.{Bool, true, false, cond, _&&_, _||_}
+use mathlib.Core.Bool.{Bool, cond, _&&_, _||_}
 use mathlib.Core.List.{List, [], _∷_, _++_, map}
 use lib.Dec.{eqb, leb, ltb}
 use lib.ListN.{getD, take, drop, replicate}
@@ -143,21 +143,3 @@ within p row = leb (p .from) row && ltb row (p .to)
 
 unfoldable pub openRow : Settings → ℕ → Bool
 openRow s row = within (plainRows s) row || within (floodRows s) row
-
--- The constant table: of each row the columns D, F, H, L, L with live option 1, roof, S, W, E, Fa; and the column of a kind.
-abbrev pub entries : Line → List ℕ
-entries l =
-    l .dead ∷ l .fluid ∷ l .earth
-    ∷ liveFactor false (l .live) ∷ liveFactor true (l .live)
-    ∷ roofFactor (l .roof) ∷ snowFactor (l .roof)
-    ∷ l .wind ∷ l .quake ∷ l .flood
-    ∷ []
-
-unfoldable pub rowTable : List (List ℕ)
-rowTable = map entries lines
-
-abbrev pub kindColumns : Bool → List ℕ
-kindColumns halved = 0 ∷ 0 ∷ 1 ∷ 2 ∷ 2 ∷ cond halved 4 3 ∷ 5 ∷ 6 ∷ 5 ∷ 7 ∷ 8 ∷ 9 ∷ []
-
-unfoldable pub columnOf : Bool → ℕ → ℕ
-columnOf halved kind = getD (kindColumns halved) kind 0

@@ -3,7 +3,8 @@ ghost use mathlib.Core.Bool.{cond};
 ghost use Prim.Native.Nat.{_<_};
 ghost use lib.Dec.{eqb};
 ghost use Rattle.standard.specs.Kinds.{classOf, kinds};
-ghost use Rattle.standard.specs.Rows.{columnOf, rowTable, rows, factorOf, lowOf, span, plainRows, floodRows};
+ghost use Rattle.standard.specs.Rows.{rows, factorOf, lowOf, span, plainRows, floodRows};
+ghost use Rattle.standard.specs.Columns.{columnOf, rowTable};
 
 // What a sheet sets for all its combinations.
 pub struct Settings {

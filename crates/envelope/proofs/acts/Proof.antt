@@ -12,7 +12,8 @@ use Rattle.integers.specs.Sums.{up}
 use Rattle.standard.specs.declared.Class.{Class}
 use Rattle.standard.specs.declared.Class.the-variants.{Always, Subset, OneOf, Unknown}
 use Rattle.standard.specs.Kinds.{classOf, kinds, groups}
-use Rattle.standard.specs.Rows.{rows, factorOf, rowTable}
+use Rattle.standard.specs.Rows.{rows, factorOf}
+use Rattle.standard.specs.Columns.{rowTable}
 use Rattle.standard.proofs.Facts.{group-below}
 use Rattle.optimum.specs.Row.{actsBy, groupBy, groupOf}
 use Rattle.envelope.specs.Sums.{actsAt}

@@ -10,7 +10,7 @@ use mathlib.Core.Path.{_≡_, refl, sym, ap, _∙_}
 use lib.Dec.{eqb}
 use lib.ListN.{List·getD-eq-default}
 use lib.Seq.{getD-set-other}
-use Rattle.standard.specs.Rows.{kindColumns, columnOf}
+use Rattle.standard.specs.Columns.{kindColumns, columnOf}
 use Rattle.standard.proofs.Table.{same-at}
 use Rattle.standard.proofs.column.Statement.{statement}
 use Rattle.standard.proofs.column.Tie as tie

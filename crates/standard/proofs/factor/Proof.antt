@@ -10,7 +10,8 @@ use lib.Dec.{eqb, ltb, ltb→lt}
 use lib.ListN.{getD}
 use Rattle.standard.specs.declared.Settings.{Settings}
 use Rattle.standard.specs.Kinds.{kinds}
-use Rattle.standard.specs.Rows.{Line, lines, blank, rows, columns, entries, rowTable, kindColumns, columnOf, factorOf}
+use Rattle.standard.specs.Rows.{Line, lines, blank, rows, columns, factorOf}
+use Rattle.standard.specs.Columns.{entries, rowTable, kindColumns, columnOf}
 use Rattle.standard.proofs.Table.{at, same-at, all-at}
 use Rattle.standard.proofs.factor.Statement.{statement}
 use Rattle.standard.proofs.factor.Tie as tie

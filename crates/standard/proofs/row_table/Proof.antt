@@ -1,7 +1,7 @@
 -- The constant is the table that the definition computes.
 -- Assumes nothing.
 use mathlib.Core.Path.{refl}
-use Rattle.standard.specs.Rows.{rowTable}
+use Rattle.standard.specs.Columns.{rowTable}
 use Rattle.standard.proofs.row_table.Statement.{statement}
 use Rattle.standard.proofs.row_table.Tie as tie
 
