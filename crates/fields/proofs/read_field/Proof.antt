@@ -1,0 +1,102 @@
+-- `fields::read_field` meets its contract: refusals 14 and 3, and then the field's own answer.
+-- Assumes nothing.
+use Prim.Native.Nat.{_+_, _-_}
+use mathlib.Core.Path.{_≡_, refl, sym, _∙_}
+use native.Mathlib.Omega.{arith}
+use borrow.Author.Tests.{lt-ltb, le-ltb}
+use Rattle.wire.specs.Bytes.{over}
+use Rattle.fields.specs.Field.{readField, readHeader, answerBytes}
+use Rattle.fields.proofs.Laws.{header-fits}
+use borrow.Author.Needs.{needs}
+use Rattle.fields.proofs.read_field.Statement.{statement}
+use Rattle.fields.proofs.read_field.Tie as tie
+
+returns : tie.Need-returns
+unfolding readField over answerBytes
+returns c = record { reading = rw (lt-ltb _ _ (c .if1 .taken)); output = refl }
+
+header-of-requires : tie.Need-header-of-requires
+header-of-requires c κs = search needs
+
+enum-known-h : tie.Need-enum-known-h
+enum-known-h c = search needs
+
+enum-told : tie.Need-enum-told
+enum-told c = search needs
+
+put-answer-requires : tie.Need-put-answer-requires
+put-answer-requires c κs = search needs
+
+same-length : tie.Need-same-length
+same-length c = search needs
+
+returns-2 : tie.Need-returns-2
+unfolding readField readHeader
+returns-2 c =
+    let m = c .before .before .before .before .before .before in
+    let e = sym (m .header-of .ensures) ∙ c .before .before .before .before .enum-told .given .1 in
+    let p = c .before .before .put-answer .ensures in
+    record { reading = rw (le-ltb _ _ (m .before .if1 .left), e, p .0); output = p .1 }
+
+add-field : tie.Need-add-field
+add-field c = omega (arith, header-fits _ _ _ (c .before .before .before .header-of .ensures) (c .before .h .given .1))
+
+sub-field : tie.Need-sub-field
+sub-field c = search needs
+
+part-field-start : tie.Need-part-field-start
+part-field-start c = search needs
+
+part-field-end : tie.Need-part-field-end
+part-field-end c = header-fits _ _ _ (c .before .before .before .header-of .ensures) (c .before .h .given .1)
+
+field-requires : tie.Need-field-requires
+field-requires c κs = search needs
+
+answer-of-requires : tie.Need-answer-of-requires
+answer-of-requires c κs = search needs
+
+put-answer-requires-2 : tie.Need-put-answer-requires-2
+put-answer-requires-2 c κs = search needs
+
+add-t13 : tie.Need-add-t13
+add-t13 c = omega (arith, header-fits _ _ _ (c .before .before .before .before .before .before .before .before .before .before .before .header-of .ensures) (c .before .before .before .before .before .before .before .before .before .h .given .1))
+
+same-length-2 : tie.Need-same-length-2
+same-length-2 c = search needs
+
+returns-3 : tie.Need-returns-3
+unfolding readField readHeader
+returns-3 c =
+    let a = c .before .before .before .before .before in
+    let h = a .before .before .before .before in
+    let l = h .h .given .0 .1 .0 in
+    let g : 3 + l - 3 ≡ l = omega arith in
+    let e = sym (h .before .before .header-of .ensures) ∙ h .h .given .1 in
+    let p = c .before .before .before .put-answer2 .ensures in
+    record {
+      reading = rw (le-ltb _ _ (h .before .before .before .if1 .left), e, p .0, a .answer-of .ensures, a .before .field .ensures, g);
+      output = p .1;
+    }
+
+pub read-field-spec : {M : Type 1} → statement M
+read-field-spec =
+    tie.close
+    (tie.spec
+    returns
+    header-of-requires
+    enum-known-h
+    enum-told
+    put-answer-requires
+    same-length
+    returns-2
+    add-field
+    sub-field
+    part-field-start
+    part-field-end
+    field-requires
+    answer-of-requires
+    put-answer-requires-2
+    add-t13
+    same-length-2
+    returns-3)

@@ -1,0 +1,21 @@
+-- What one reading ensures, and bytes that are read through field by field.
+use Prim.Native.Nat.{ℕ}
+use mathlib.Core.Path.{_≡_}
+use mathlib.Core.List.{List, [], _∷_}
+use lib.ListN.{length, drop}
+use Rattle.wire.specs.Bytes.{over}
+use Rattle.sheet.specs.declared.Sheet.{Sheet}
+use Rattle.fields.specs.declared.Answer.the-variants.{Accepted}
+use Rattle.fields.specs.declared.Reading.{Reading}
+use Rattle.fields.specs.Field.{readField, answerBytes}
+
+-- the input, the output before, the sheet given, the result and the output after, whose later bytes are as they were
+pub record FieldRead (input out : List ℕ) (s : Sheet) (r : Reading) (out′ : List ℕ) : Type 0 where
+  pub reading : r ≡ readField input (length out) s
+  pub output : out′ ≡ over (answerBytes (r .answer)) out
+
+-- every field of the bytes is accepted, from a sheet to a sheet
+pub data ReadThrough : List ℕ → Sheet → Sheet → Type 0 where
+  end : {s : Sheet} → ReadThrough [] s s
+  field : {b : ℕ} {bs : List ℕ} {s s′ : Sheet} → readField (b ∷ bs) 37 s .answer ≡ Accepted →
+      ReadThrough (drop (readField (b ∷ bs) 37 s .consumed) (b ∷ bs)) (readField (b ∷ bs) 37 s .sheet) s′ → ReadThrough (b ∷ bs) s s′

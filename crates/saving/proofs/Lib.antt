@@ -1,0 +1,5 @@
+pub mod Lengths
+pub mod Appending
+pub mod Framing
+pub mod Stages
+pub mod RoundTrip

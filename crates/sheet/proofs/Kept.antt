@@ -1,0 +1,133 @@
+-- A fresh sheet is in range, and each field keeps a sheet so.
+-- Assumes nothing.
+use Prim.Native.Nat.{ℕ, zero, suc, _≤_, _<_, zero-le}
+use mathlib.Core.Path.{_≡_, sym, _∙_}
+use mathlib.Core.List.{List, [], _∷_}
+use mathlib.Core.Bool.{true, false}
+use mathlib.Core.Logic.{⊎-elim, inl, inr}
+use native.Mathlib.Omega.{arith}
+use lib.Dec.{eqb}
+use lib.ListN.{getD}
+use lib.IntN.{ℤ, pos, natAbs}
+use borrow.Author.Tests.{eqb-true}
+use Rattle.standard.specs.declared.Settings.{Settings}
+use Rattle.wire.specs.Bytes.{signed16}
+use Rattle.wire.proofs.Cases.{either, eq-or-ne}
+use Rattle.wire.proofs.Stores.{set-keep, sets-keep, replicate-all}
+use Rattle.sheet.specs.declared.Sheet.{Sheet}
+use Rattle.sheet.specs.Sheet.{kindAt, effectAt, capacityAt, place, cleared, fresh, withKind, withEffects, withCapacities}
+use Rattle.sheet.specs.Edits.{dueSettings, dueFill, dueEffects, dueEmpty, dueCapacities, tried}
+use Rattle.sheet.specs.Range.{InRange, Whole}
+use Rattle.sheet.proofs.Refusals.{fill-range, effects-range, empty-range, capacities-range}
+use Rattle.sheet.proofs.Access.{long, fresh-long, kind-long, effects-long, capacities-long, kind-other, effect-cleared, effect-kept, effect-other, capacity-replaced, capacity-other, fresh-kind, fresh-settings, fresh-stored, fresh-effect, fresh-capacity}
+
+-- an effect within 10,000
+abbrev Within : ℤ → Type 0
+Within e = natAbs e ≤ 10000
+
+pub fresh-in-range : (settings : Settings) → dueSettings (settings .method) (settings .live) (settings .zone) ≡ 0 → InRange (fresh settings)
+fresh-in-range settings e =
+    let l = fresh-long settings in
+    record {
+      settings = rw (fresh-settings settings) e;
+      kinds-long = l .kinds;
+      effects-long = l .effects;
+      capacities-long = l .capacities;
+      kinds-range = λ k. rw (fresh-kind settings k) zero-le;
+      effects-range = λ i. rw (fresh-stored settings i) zero-le;
+      empty-zero = λ k t j _ _ _ _. fresh-effect settings k t j;
+      capacities-whole = λ t _. inl (fresh-capacity settings t 0, fresh-capacity settings t 1, fresh-capacity settings t 2);
+    }
+
+-- a place that is filled or emptied
+cleared-within : (l : List ℤ) (k n i : ℕ) → Within (getD l i (pos 0)) → Within (getD (cleared l k n) i (pos 0))
+unfolding cleared
+cleared-within l k zero i h = h
+cleared-within l k (suc n) i h =
+    sets-keep Within (pos 0) (pos 0 ∷ pos 0 ∷ pos 0 ∷ []) (cleared l k n) (place k n) i (cleared-within l k n i h)
+    (replicate-all Within (pos 0) (pos 0) zero-le zero-le 3)
+
+kind-kept : (s : Sheet) (k v : ℕ) → InRange s → k < 32 → v ≤ 11 → InRange (withKind s k v)
+unfolding withKind capacityAt
+kind-kept s k v h a b =
+    let l = kind-long s k v (long h) in
+    record {
+      settings = h .settings;
+      kinds-long = l .kinds;
+      effects-long = l .effects;
+      capacities-long = l .capacities;
+      kinds-range = λ q. set-keep (λ (n : ℕ). n ≤ 11) 0 (s .kinds) k v q (h .kinds-range q) b;
+      effects-range = λ i. cleared-within (s .effects) k 16 i (h .effects-range i);
+      empty-zero = λ q t j e c d f. ⊎-elim
+          (λ (r : q ≡ k). rw r (effect-cleared s k v t j (long h) a d f))
+          (λ (ne : q ≡ k → ⊥). effect-kept s k v q t j a c f ne ∙ h .empty-zero q t j (sym (kind-other s k v q ne) ∙ e) c d f)
+          (eq-or-ne q k);
+      capacities-whole = h .capacities-whole;
+    }
+
+pub fill-kept : (s : Sheet) (k v : ℕ) → InRange s → dueFill s k v ≡ 0 → InRange (withKind s k v)
+fill-kept s k v h e = let f = fill-range (kindAt s k) k v e in kind-kept s k v h (f .case) (f .kind)
+
+pub emptied-kept : (s : Sheet) (k : ℕ) → InRange s → dueEmpty s k ≡ 0 → InRange (withKind s k 0)
+emptied-kept s k h e = kind-kept s k 0 h (empty-range (kindAt s k) k e .case) zero-le
+
+three : {A : Type 0} (P : A → Type 0) {a b c d : A} → P a → P b → P c → P d → (i : ℕ) → P (getD (a ∷ b ∷ c ∷ []) i d)
+three P pa pb pc pd zero = pa
+three P pa pb pc pd (suc zero) = pb
+three P pa pb pc pd (suc (suc zero)) = pc
+three P pa pb pc pd (suc (suc (suc i))) = pd
+
+pub effects-kept : (s : Sheet) (k t n y z : ℕ) → InRange s → dueEffects s k t n y z ≡ 0 → InRange (withEffects s k t (signed16 n) (signed16 y) (signed16 z))
+unfolding withEffects capacityAt
+effects-kept s k t n y z h e =
+    let f = effects-range (kindAt s k) k t n y z e in
+    let l = effects-long s k t (signed16 n) (signed16 y) (signed16 z) (long h) in
+    record {
+      settings = h .settings;
+      kinds-long = l .kinds;
+      effects-long = l .effects;
+      capacities-long = l .capacities;
+      kinds-range = h .kinds-range;
+      effects-range = λ i. sets-keep Within (pos 0) (signed16 n ∷ signed16 y ∷ signed16 z ∷ []) (s .effects) (place k t) i (h .effects-range i)
+          (three Within (f .n) (f .y) (f .z) zero-le);
+      empty-zero = λ q u j o a b c. ⊎-elim
+          (λ (r : q ≡ k). absurd (f .filled (rw r at o)))
+          (λ (ne : q ≡ k → ⊥). effect-other s k t (signed16 n) (signed16 y) (signed16 z) q u j (f .case) a c (λ g. ne (g .0)) ∙ h .empty-zero q u j o a b c)
+          (eq-or-ne q k);
+      capacities-whole = h .capacities-whole;
+    }
+
+-- three capacities that are equal to whole ones
+whole : {f g : ℕ → ℕ} → ((j : ℕ) → j < 3 → f j ≡ g j) → Whole (g 0) (g 1) (g 2) → Whole (f 0) (f 1) (f 2)
+whole e w = rw (e 0 (omega arith), e 1 (omega arith), e 2 (omega arith)) w
+
+pub capacities-kept : (s : Sheet) (t n y z : ℕ) → InRange s → dueCapacities t n y z ≡ 0 → InRange (withCapacities s t n y z)
+unfolding withCapacities effectAt
+capacities-kept s t n y z h e =
+    let f = capacities-range t n y z e in
+    let l = capacities-long s t n y z (long h) in
+    record {
+      settings = h .settings;
+      kinds-long = l .kinds;
+      effects-long = l .effects;
+      capacities-long = l .capacities;
+      kinds-range = h .kinds-range;
+      effects-range = h .effects-range;
+      empty-zero = h .empty-zero;
+      capacities-whole = λ u c. ⊎-elim
+          (λ (r : u ≡ t). rw r (whole (λ j g. capacity-replaced s t n y z j (long h) (f .station) g) (inr (f .n, f .y, f .z))))
+          (λ (ne : u ≡ t → ⊥). whole (λ j g. capacity-other s t n y z u j g ne) (h .capacities-whole u c))
+          (eq-or-ne u t);
+    }
+
+-- an edit as its refusals allow it
+pub tried-kept : (d : ℕ) (s s′ : Sheet) → InRange s → (d ≡ 0 → InRange s′) → InRange (tried d s s′ .sheet)
+unfolding tried
+tried-kept d s s′ h g = ⊎-elim
+    (λ (e : eqb d 0 ≡ true). rw e (g (eqb-true d 0 e)))
+    (λ (e : eqb d 0 ≡ false). rw e h)
+    (either (eqb d 0))
+
+pub restarted : (s : Sheet) (settings : Settings) → InRange s →
+    InRange (tried (dueSettings (settings .method) (settings .live) (settings .zone)) s (fresh settings) .sheet)
+restarted s settings h = tried-kept (dueSettings (settings .method) (settings .live) (settings .zone)) s (fresh settings) h (fresh-in-range settings)

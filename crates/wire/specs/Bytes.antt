@@ -1,0 +1,29 @@
+-- 01, 'A sheet and its seven fields': bytes of numbers. Multi-byte numbers have the high byte first, signed ones are two's complement.
+use Prim.Native.Nat.{ℕ, _+_, _*_, _/_, _%_}
+use mathlib.Core.List.{List, [], _∷_, _++_}
+use lib.ListN.{length, getD, drop}
+use lib.IntN.{ℤ}
+use mir.Syntax.{w16}
+use mir.Val.{toZ, ofZ}
+
+-- the byte at a position, 0 past the end, and the two-byte number there
+abbrev pub byteAt : List ℕ → ℕ → ℕ
+byteAt s at = getD s at 0
+
+abbrev pub wordAt : List ℕ → ℕ → ℕ
+wordAt s at = getD s at 0 * 256 + getD s (at + 1) 0
+
+-- the two bytes of a number
+abbrev pub wordBytes : ℕ → List ℕ
+wordBytes n = n / 256 ∷ n % 256 ∷ []
+
+-- the number whose two's complement bits these are, and its bits
+abbrev pub signed16 : ℕ → ℤ
+signed16 n = toZ w16 n
+
+abbrev pub bits16 : ℤ → ℕ
+bits16 z = ofZ w16 z
+
+-- bytes written over the front of an output: later ones stay
+unfoldable pub over : List ℕ → List ℕ → List ℕ
+over w o = w ++ drop (length w) o
