@@ -155,7 +155,7 @@ squeeze v x p q = ap natAbs (eq-in v (pos x) (omega (arith, le-out v (pos x) p, 
 above : (v : ℤ) (x : ℕ) → pos x ≤ℤ v → x ≤ natAbs v
 above v x p = omega (arith, le-out (pos x) v p, abs-parts v)
 
-pub namedIn : Utilised → Combination
+unfoldable pub namedIn : Utilised → Combination
 namedIn x = named (x .row) (x .acting) (x .low)
 
 module _ (s : Settings) (kind : ℕ → ℕ) (m : (s .method ≡ 1) ⊎ (s .method ≡ 2)) (empty : (k : ℕ) → cases ≤ k → kind k ≡ 0) (effect : ℕ → ℕ → ℤ) (p : Capacities) where

@@ -6,32 +6,35 @@ use lib.ListN.{length, take, drop}
 use lib.Dec.{eqb, ltb}
 use Rattle.wire.specs.Bytes.{byteAt, wordAt, signed16}
 use Rattle.sheet.specs.declared.Sheet.{Sheet}
-use Rattle.sheet.specs.declared.Edited.{Edited}
+use Rattle.sheet.specs.declared.Answered.{Answered}
 use Rattle.sheet.specs.Sheet.{withKind, withEffects, withCapacities}
 use Rattle.sheet.specs.Edits.{dueFill, dueEffects, dueEmpty, dueCapacities}
+use Rattle.sheet.specs.Looks.{lookedExtremes, lookedUtilisation}
 use Rattle.sheet.specs.Range.{InRange}
 use Rattle.sheet.proofs.Kept.{tried-kept, restarted, fill-kept, effects-kept, emptied-kept, capacities-kept}
 use Rattle.fields.specs.declared.Header.{Header}
 use Rattle.fields.specs.declared.Header.the-variants.{Field, Short}
 use Rattle.fields.specs.declared.Reading.{Reading}
-use Rattle.fields.specs.Field.{headerOf, dueHeader, editOf, fieldOf, readHeader, readField}
+use Rattle.fields.specs.Field.{headerOf, dueHeader, runOf, fieldOf, readHeader, readField}
 use Rattle.fields.proofs.Laws.{both}
 
-abbrev EditedInRange : Edited → Type 0
-EditedInRange e = InRange (e .sheet)
+abbrev AnsweredInRange : Answered → Type 0
+AnsweredInRange a = InRange (a .sheet)
 
-edit-kept : (s : Sheet) (tag : ℕ) (b : List ℕ) → InRange s → InRange (editOf s tag b .sheet)
-unfolding editOf
-edit-kept s tag b h =
-    both EditedInRange (eqb tag 1) (restarted s (record { method = b0; live = b1; zone = byteAt b 2 }) h)
-    (both EditedInRange (eqb tag 2) (tried-kept (dueFill s b0 b1) s (withKind s b0 b1) h (fill-kept s b0 b1 h))
-    (both EditedInRange (eqb tag 3)
+run-kept : (s : Sheet) (tag : ℕ) (b : List ℕ) → InRange s → InRange (runOf s tag b .sheet)
+unfolding runOf lookedExtremes lookedUtilisation
+run-kept s tag b h =
+    both AnsweredInRange (eqb tag 1) (restarted s (record { method = b0; live = b1; zone = byteAt b 2 }) h)
+    (both AnsweredInRange (eqb tag 2) (tried-kept (dueFill s b0 b1) s (withKind s b0 b1) h (fill-kept s b0 b1 h))
+    (both AnsweredInRange (eqb tag 3)
     (tried-kept (dueEffects s b0 b1 (wordAt b 2) (wordAt b 4) (wordAt b 6)) s
     (withEffects s b0 b1 (signed16 (wordAt b 2)) (signed16 (wordAt b 4)) (signed16 (wordAt b 6))) h
     (effects-kept s b0 b1 (wordAt b 2) (wordAt b 4) (wordAt b 6) h))
-    (both EditedInRange (eqb tag 4) (tried-kept (dueEmpty s b0) s (withKind s b0 0) h (emptied-kept s b0 h))
+    (both AnsweredInRange (eqb tag 4) (tried-kept (dueEmpty s b0) s (withKind s b0 0) h (emptied-kept s b0 h))
+    (both AnsweredInRange (eqb tag 5)
     (tried-kept (dueCapacities b0 (wordAt b 1) (wordAt b 3) (wordAt b 5)) s (withCapacities s b0 (wordAt b 1) (wordAt b 3) (wordAt b 5)) h
-    (capacities-kept s b0 (wordAt b 1) (wordAt b 3) (wordAt b 5) h)))))
+    (capacities-kept s b0 (wordAt b 1) (wordAt b 3) (wordAt b 5) h))
+    (both AnsweredInRange (eqb tag 6) h h)))))
   where
     b0 : ℕ
     b0 = byteAt b 0
@@ -41,7 +44,7 @@ edit-kept s tag b h =
 
 pub field-kept : (s : Sheet) (tag : ℕ) (b : List ℕ) → InRange s → InRange (fieldOf s tag b .sheet)
 unfolding fieldOf
-field-kept s tag b h = both EditedInRange (eqb (dueHeader tag (length b)) 0) (edit-kept s tag b h) h
+field-kept s tag b h = both AnsweredInRange (eqb (dueHeader tag (length b)) 0) (run-kept s tag b h) h
 
 header-kept : (h : Header) (input : List ℕ) (s : Sheet) → InRange s → InRange (readHeader h input s .sheet)
 unfolding readHeader

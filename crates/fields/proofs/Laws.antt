@@ -1,14 +1,16 @@
--- Both outcomes of a test, and a whole field, which lies in the input.
+-- Both outcomes of a test, a whole field, which lies in the input, and bytes put over the front.
 -- Assumes nothing.
 use Prim.Native.Nat.{ℕ, _+_, _-_, _≤_}
-use mathlib.Core.Path.{_≡_, refl, sym, ap, _∙_}
+use mathlib.Core.Path.{_≡_, refl, sym, _∙_}
 use mathlib.Core.List.{List}
 use mathlib.Core.Bool.{Bool, true, false, cond}
+use native.Mathlib.Nat.{zero-add}
 use native.Mathlib.Omega.{arith}
 use borrow.Author.Tests.{ltb-false}
 use lib.ListN.{length}
 use lib.Dec.{ltb}
-use Rattle.wire.specs.Bytes.{wordAt}
+use Rattle.wire.specs.Bytes.{wordAt, over}
+use Rattle.wire.proofs.Stores.{Put, front}
 use Rattle.fields.specs.declared.Header.{Header}
 use Rattle.fields.specs.declared.Header.the-variants.{Field, Short}
 use Rattle.fields.specs.Field.{headerOf}
@@ -34,3 +36,7 @@ header-fits s tag len g e =
     let b : wordAt s 1 ≤ length s - 3 = ltb-false (length s - 3) (wordAt s 1) (r .0) in
     let d : len ≤ length s - 3 = rw f at b in
     omega arith
+
+-- what is put at 0 stands over the front
+pub put-front : (w o : List ℕ) {to : ℕ} {out : List ℕ} → length w ≤ length o → Put o 0 w to out → (to ≡ length w) × (out ≡ over w o)
+put-front w o h p = (p .0 ∙ zero-add (length w), p .1 ∙ front w o h)

@@ -1,3 +1,4 @@
 pub mod Laws
 pub mod Kept
 pub mod Refused
+pub mod Within

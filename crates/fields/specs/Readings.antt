@@ -1,11 +1,12 @@
 -- What one reading ensures, and bytes that are read through field by field.
-use Prim.Native.Nat.{ℕ}
+use Prim.Native.Nat.{ℕ, _≤_}
 use mathlib.Core.Path.{_≡_}
 use mathlib.Core.List.{List, [], _∷_}
 use lib.ListN.{length, drop}
 use Rattle.wire.specs.Bytes.{over}
 use Rattle.sheet.specs.declared.Sheet.{Sheet}
-use Rattle.fields.specs.declared.Answer.the-variants.{Accepted}
+use Rattle.sheet.specs.Range.{InRange}
+use Rattle.sheet.specs.declared.Answer.the-variants.{Accepted}
 use Rattle.fields.specs.declared.Reading.{Reading}
 use Rattle.fields.specs.Field.{readField, answerBytes}
 
@@ -19,3 +20,10 @@ pub data ReadThrough : List ℕ → Sheet → Sheet → Type 0 where
   end : {s : Sheet} → ReadThrough [] s s
   field : {b : ℕ} {bs : List ℕ} {s s′ : Sheet} → readField (b ∷ bs) 37 s .answer ≡ Accepted →
       ReadThrough (drop (readField (b ∷ bs) 37 s .consumed) (b ∷ bs)) (readField (b ∷ bs) 37 s .sheet) s′ → ReadThrough (b ∷ bs) s s′
+
+-- what a caller that only goes on needs of a reading: the sheet in range, the places within the input and the output
+pub record ReadWithin (input out : List ℕ) (r : Reading) (out′ : List ℕ) : Type 0 where
+  pub in-range : InRange (r .sheet)
+  pub consumed : r .consumed ≤ length input
+  pub written : r .written ≤ length out
+  pub same : length out′ ≡ length out

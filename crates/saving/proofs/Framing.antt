@@ -10,11 +10,11 @@ use lib.ListN.{length, drop, length-append}
 use lib.Seq.{take-append-seam, drop-append-seam}
 use Rattle.wire.specs.Bytes.{wordAt}
 use Rattle.sheet.specs.declared.Sheet.{Sheet}
-use Rattle.sheet.specs.declared.Edited.{Edited}
-use Rattle.fields.specs.declared.Answer.the-variants.{Accepted}
+use Rattle.sheet.specs.declared.Answer.the-variants.{Accepted}
+use Rattle.sheet.specs.declared.Answered.{Answered}
 use Rattle.fields.specs.declared.Header.the-variants.{Field}
 use Rattle.fields.specs.declared.Reading.{Reading}
-use Rattle.fields.specs.Field.{headerOf, fieldOf, answerOf, readHeader, readField, reading}
+use Rattle.fields.specs.Field.{headerOf, fieldOf, readHeader, readField, reading}
 use Rattle.fields.specs.Readings.{ReadThrough, field}
 use Rattle.saving.specs.Saved.{upTo}
 
@@ -22,8 +22,8 @@ use Rattle.saving.specs.Saved.{upTo}
 abbrev pub Takes : List ℕ → Sheet → Sheet → Type 0
 Takes w s s′ = (rest : List ℕ) (s″ : Sheet) → ReadThrough rest s′ s″ → ReadThrough (w ++ rest) s s″
 
-abbrev pub accepted : Sheet → Edited
-accepted s = record { refusal = 0; sheet = s }
+abbrev pub accepted : Sheet → Answered
+accepted s = record { answer = Accepted; sheet = s }
 
 module _ (tag : ℕ) (body rest : List ℕ) where
   abbrev bytes : List ℕ
@@ -39,9 +39,9 @@ module _ (tag : ℕ) (body rest : List ℕ) where
       let c : length body ≤ length bytes - 3 = omega arith in
       rw (le-ltb (length bytes) 3 a, w, le-ltb 60000 (length body) b, le-ltb (length bytes - 3) (length body) c)
 
-  front-read : (s s′ : Sheet) → length body < 256 → fieldOf s tag body ≡ accepted s′ → readField bytes 37 s ≡ reading (3 + length body) Accepted s′
-  unfolding readField readHeader answerOf
-  front-read s s′ h e = rw (whole-header h, take-append-seam body rest, e)
+  pub front-read : (room : ℕ) (s : Sheet) {a : Answered} → 37 ≤ room → length body < 256 → fieldOf s tag body ≡ a → readField bytes room s ≡ reading (3 + length body) a
+  unfolding readField readHeader
+  front-read room s g h e = rw (le-ltb room 37 g, whole-header h, take-append-seam body rest, e)
 
   rest-left : drop (3 + length body) bytes ≡ rest
   rest-left =
@@ -50,7 +50,8 @@ module _ (tag : ℕ) (body rest : List ℕ) where
 
 pub takes-field : (tag : ℕ) (body : List ℕ) (s s′ : Sheet) → length body < 256 → fieldOf s tag body ≡ accepted s′ → Takes (tag ∷ 0 ∷ length body ∷ body) s s′
 takes-field tag body s s′ h e rest s″ r =
-    let p = front-read tag body rest s s′ h e in
+    let g : 37 ≤ 37 = omega arith in
+    let p = front-read tag body rest 37 s g h e in
     field {b = tag} {bs = 0 ∷ length body ∷ (body ++ rest)} {s = s} {s′ = s″} (ap (λ (x : Reading). x .answer) p) (rw (p, rest-left tag body rest) r)
 
 -- from any sheet that has the first property, these bytes lead to one that has the second

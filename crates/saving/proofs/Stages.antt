@@ -1,7 +1,7 @@
 -- A sheet that is partly restored, as its accessors show it, and what each saved field adds.
 -- Assumes nothing.
 use Prim.Native.Nat.{ℕ, zero, suc, _+_, _*_, _/_, _%_, _≤_, _<_, zero-le}
-use mathlib.Core.Path.{_≡_, refl, sym, _∙_}
+use mathlib.Core.Path.{_≡_, refl, sym, ap, _∙_}
 use mathlib.Core.List.{[], _∷_}
 use mathlib.Core.Bool.{cond}
 use mathlib.Core.Logic.{⊎-elim}
@@ -23,19 +23,19 @@ use Rattle.sheet.specs.Edits.{dueSettings, dueFill, dueEffects, dueCapacities}
 use Rattle.sheet.specs.Range.{InRange}
 use Rattle.sheet.proofs.Access.{Long, long, fresh-long, kind-long, effects-long, capacities-long, kind-filled, kind-other, effect-cleared, effect-kept, kind-leaves-capacity, kind-leaves-settings, effect-replaced, effect-other, effects-leave-kind, effects-leave-capacity, effects-leave-settings, capacity-replaced, capacity-other, capacities-leave-kind, capacities-leave-effect, capacities-leave-settings, fresh-settings, fresh-kind, fresh-effect, fresh-capacity, same-sheet}
 use Rattle.sheet.proofs.Refusals.{tried-none}
-use Rattle.fields.specs.Field.{fieldOf, editOf, dueHeader, lengthOf}
+use Rattle.fields.specs.Field.{fieldOf, runOf, edited, dueHeader, lengthOf}
 use Rattle.saving.specs.Saved.{rawIn}
 use Rattle.saving.proofs.Framing.{accepted}
 
 -- ---- a field that is not refused
 pub settings-edit : (s : Sheet) (m l z : ℕ) → dueSettings m l z ≡ 0 →
     fieldOf s 1 (m ∷ l ∷ z ∷ []) ≡ accepted (fresh (record { method = m; live = l; zone = z }))
-unfolding fieldOf dueHeader lengthOf editOf
-settings-edit s m l z e = sym (tried-none (dueSettings m l z) s _ e refl)
+unfolding fieldOf dueHeader lengthOf runOf
+settings-edit s m l z e = ap edited (sym (tried-none (dueSettings m l z) s _ e refl))
 
 pub fill-edit : (s : Sheet) (k v : ℕ) → dueFill s k v ≡ 0 → fieldOf s 2 (k ∷ v ∷ []) ≡ accepted (withKind s k v)
-unfolding fieldOf dueHeader lengthOf editOf
-fill-edit s k v e = sym (tried-none (dueFill s k v) s _ e refl)
+unfolding fieldOf dueHeader lengthOf runOf
+fill-edit s k v e = ap edited (sym (tried-none (dueFill s k v) s _ e refl))
 
 -- a number is what its two bytes say
 joined : (n : ℕ) → n / 256 * 256 + n % 256 ≡ n
@@ -43,13 +43,13 @@ joined n = omega arith
 
 pub effects-edit : (s : Sheet) (k t n y z : ℕ) → dueEffects s k t n y z ≡ 0 →
     fieldOf s 3 (k ∷ t ∷ n / 256 ∷ n % 256 ∷ y / 256 ∷ y % 256 ∷ z / 256 ∷ z % 256 ∷ []) ≡ accepted (withEffects s k t (signed16 n) (signed16 y) (signed16 z))
-unfolding fieldOf dueHeader lengthOf editOf
-effects-edit s k t n y z e = rw (joined n, joined y, joined z) (sym (tried-none (dueEffects s k t n y z) s _ e refl))
+unfolding fieldOf dueHeader lengthOf runOf
+effects-edit s k t n y z e = rw (joined n, joined y, joined z) (ap edited (sym (tried-none (dueEffects s k t n y z) s _ e refl)))
 
 pub capacities-edit : (s : Sheet) (t n y z : ℕ) → dueCapacities t n y z ≡ 0 →
     fieldOf s 5 (t ∷ n / 256 ∷ n % 256 ∷ y / 256 ∷ y % 256 ∷ z / 256 ∷ z % 256 ∷ []) ≡ accepted (withCapacities s t n y z)
-unfolding fieldOf dueHeader lengthOf editOf
-capacities-edit s t n y z e = rw (joined n, joined y, joined z) (sym (tried-none (dueCapacities t n y z) s _ e refl))
+unfolding fieldOf dueHeader lengthOf runOf
+capacities-edit s t n y z e = rw (joined n, joined y, joined z) (ap edited (sym (tried-none (dueCapacities t n y z) s _ e refl)))
 
 -- ---- an effect and its bits
 mag-le : (z : ℤ) → mag z ≤ natAbs z

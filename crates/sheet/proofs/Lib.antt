@@ -1,3 +1,4 @@
 pub mod Refusals
 pub mod Access
 pub mod Kept
+pub mod Stations

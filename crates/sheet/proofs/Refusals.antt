@@ -1,7 +1,7 @@
 -- What follows from no refusal due, and the edit that a refusal leaves undone.
 -- Assumes nothing.
-use Prim.Native.Nat.{ℕ, suc, _≤_, _<_}
-use mathlib.Core.Path.{_≡_, refl}
+use Prim.Native.Nat.{ℕ, zero, suc, _≤_, _<_}
+use mathlib.Core.Path.{_≡_, refl, ap, _∙_}
 use mathlib.Core.Bool.{Bool, true, false, cond, _||_}
 use native.Mathlib.Omega.{arith}
 use borrow.Author.Tests.{eq-eqb, ne-eqb, le-ltb, ltb-false, eqb-true, eqb-false}
@@ -10,6 +10,9 @@ use lib.IntN.{natAbs}
 use Rattle.wire.specs.Bytes.{signed16}
 use Rattle.sheet.specs.declared.Sheet.{Sheet}
 use Rattle.sheet.specs.declared.Edited.{Edited}
+use Rattle.sheet.specs.declared.Answer.{Answer}
+use Rattle.sheet.specs.declared.Answer.the-variants as answer
+use Rattle.sheet.specs.Looks.{dueExtremes, dueUtilisationAt, unlessDue}
 use Rattle.sheet.specs.Edits.{effectOutside, capacityOutside, kindOutside, methodOutside, dueSettings, dueFillAt, dueEffectsAt, dueEmptyAt, dueCapacities, tried}
 
 -- a chain of refusals that gives 0: its first test fails, and the rest gives 0
@@ -161,3 +164,28 @@ tried-none d s s′ {x} e f = rw (e, f)
 pub tried-due : (d : ℕ) (s s′ : Sheet) {e : ℕ} → e ≡ d → (e ≡ 0 → ⊥) → _≡_ {A = Edited} (record { refusal = e; sheet = s }) (tried d s s′)
 unfolding tried
 tried-due d s s′ {e} p h = rw (← p, ne-eqb e 0 h)
+
+-- tags 06 and 07
+pub extremes-range : (station component : ℕ) → dueExtremes station component ≡ 0 → (station < 16) × (component < 3)
+unfolding dueExtremes
+extremes-range t j e =
+    let a = none-due (ltb 15 t) 6 (cond (ltb 2 j) 8 0) (omega arith) e in
+    let b = none-due (ltb 2 j) 8 0 (omega arith) (a .1) in
+    (omega (arith, ltb-false 15 t (a .0)), omega (arith, ltb-false 2 j (b .0)))
+
+pub utilisation-range : (held station : ℕ) → dueUtilisationAt held station ≡ 0 → (station < 16) × (0 < held)
+unfolding dueUtilisationAt
+utilisation-range h t e =
+    let a = none-due (ltb 15 t) 6 (cond (eqb h 0) 13 0) (omega arith) e in
+    let b = none-due (eqb h 0) 13 0 (omega arith) (a .1) in
+    (omega (arith, ltb-false 15 t (a .0)), some h (eqb-false h 0 (b .0)))
+  where
+    some : (n : ℕ) → (n ≡ 0 → ⊥) → 0 < n
+    some zero f = absurd (f refl)
+    some (suc n) f = omega arith
+
+pub answered-none : (d : ℕ) (a : Answer) → d ≡ 0 → a ≡ unlessDue d a
+answered-none d a e = rw (eq-eqb d 0 e)
+
+pub answered-due : (d : ℕ) (a : Answer) {e : ℕ} → e ≡ d → (e ≡ 0 → ⊥) → answer.Refused e ≡ unlessDue d a
+answered-due d a p n = ap (λ (x : ℕ). answer.Refused x) p ∙ rw (ne-eqb d 0 (λ q. n (p ∙ q)))

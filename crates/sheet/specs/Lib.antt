@@ -1,3 +1,4 @@
 pub mod Sheet
 pub mod Edits
 pub mod Range
+pub mod Looks

@@ -1,10 +1,16 @@
 // The sheet: settings, 32 case places and 16 stations, and the edits of tags 01 to 05.
 ghost use mathlib.Core.Path.{_≡_};
+ghost use lib.ListN.{getD};
 ghost use mathlib.Core.Bool.{cond};
 ghost use Prim.Native.Nat.{_+_, _*_, _<_};
 ghost use Rattle.wire.specs.Bytes.{signed16};
-ghost use Rattle.sheet.specs.Sheet.{fresh, cleared, withKind, withEffects, withCapacities};
+ghost use Rattle.sheet.specs.Sheet.{fresh, cleared, withKind, withEffects, withCapacities, capacityAt};
+ghost use Rattle.sheet.specs.Range.{InRange};
+ghost use Rattle.sheet.specs.Looks.{extremesAt, utilisationAt, dueExtremes, dueUtilisationAt, lookedExtremes, lookedUtilisation};
 ghost use Rattle.sheet.specs.Edits.{effectOutside, capacityOutside, kindOutside, methodOutside, dueSettings, dueFill, dueFillAt, dueEffects, dueEffectsAt, dueEmpty, dueEmptyAt, dueCapacities, tried};
+use envelope::Extremes;
+use envelope::Utilised;
+use standard::Capacities;
 use standard::Settings;
 
 pub struct Sheet {
@@ -14,7 +20,21 @@ pub struct Sheet {
     pub capacities: [u16; 48],
 }
 
-// What a field did: the refusal's number, or 0, and the sheet.
+// What reading a field answers.
+pub enum Answer {
+    Accepted,
+    Extremes(Extremes),
+    Utilisation(Utilised),
+    Refused(u8),
+}
+
+// An answer with the sheet beside it.
+pub struct Answered {
+    pub answer: Answer,
+    pub sheet: Sheet,
+}
+
+// What an edit did: the refusal's number, or 0, and the sheet.
 pub struct Edited {
     pub refusal: u8,
     pub sheet: Sheet,
@@ -259,4 +279,97 @@ impl Sheet {
             sheet: self,
         }
     }
+
+    // Tag 06.
+    pub fn look_extremes(self, station: u8, component: u8) -> Answered
+        requires { ⌜ InRange self ⌝ }
+        ensures { λ r. ⌜ r ≡ lookedExtremes self station component ⌝ }
+    {
+        let due = due_extremes(station, component);
+        if due == 0 {
+            let x = self.extremes_at(station as usize, component as usize);
+            return Answered {
+                answer: Answer::Extremes(x),
+                sheet: self,
+            };
+        }
+        Answered {
+            answer: Answer::Refused(due),
+            sheet: self,
+        }
+    }
+
+    fn extremes_at(self, station: usize, component: usize) -> Extremes
+        requires { ⌜ (station < 16) × (component < 3) × InRange self ⌝ }
+        ensures { λ r. ⌜ r ≡ extremesAt self station component ⌝ }
+    {
+        let kinds = self.kinds;
+        let effects = self.effects;
+        let from = station * 96;
+        let to = from + 96;
+        envelope::extremes_of(self.settings, &kinds, &effects[from..to], component)
+    }
+
+    // Tag 07.
+    pub fn look_utilisation(self, station: u8) -> Answered
+        requires { ⌜ InRange self ⌝ }
+        ensures { λ r. ⌜ r ≡ lookedUtilisation self station ⌝ }
+    {
+        let t = station as usize;
+        let n = number_at(&self.capacities, t * 3);
+        let due = due_utilisation(station, n);
+        if due == 0 {
+            let x = self.utilisation_at(t);
+            return Answered {
+                answer: Answer::Utilisation(x),
+                sheet: self,
+            };
+        }
+        Answered {
+            answer: Answer::Refused(due),
+            sheet: self,
+        }
+    }
+
+    fn utilisation_at(self, station: usize) -> Utilised
+        requires { ⌜ (station < 16) × (0 < capacityAt self station 0) × InRange self ⌝ }
+        ensures { λ r. ⌜ r ≡ utilisationAt self station ⌝ }
+    {
+        let kinds = self.kinds;
+        let effects = self.effects;
+        let from = station * 96;
+        let to = from + 96;
+        let at = station * 3;
+        let p = Capacities {
+            n: self.capacities[at],
+            y: self.capacities[at + 1],
+            z: self.capacities[at + 2],
+        };
+        envelope::utilisation_of(self.settings, &kinds, &effects[from..to], p)
+    }
+}
+
+fn due_extremes(station: u8, component: u8) -> u8
+    ensures { λ r. ⌜ r ≡ dueExtremes station component ⌝ }
+{
+    let d = first(2 < component, 8, 0);
+    first(15 < station, 6, d)
+}
+
+// `held` is the station's first capacity, 0 where it has none.
+fn due_utilisation(station: u8, held: u16) -> u8
+    ensures { λ r. ⌜ r ≡ dueUtilisationAt held station ⌝ }
+{
+    let due = first(held == 0, 13, 0);
+    first(15 < station, 6, due)
+}
+
+// The number at a position of a list of numbers, 0 past its end.
+fn number_at(s: &[u16], at: usize) -> u16
+    ensures { λ r. ⌜ r ≡ getD (now (s .entry)) at 0 ⌝ }
+{
+    if at < s.len() {
+        return s[at];
+    }
+    0
 }

@@ -3,7 +3,7 @@ use Prim.Native.Nat.{ℕ, _+_, _*_, _/_, _%_}
 use mathlib.Core.List.{List, [], _∷_, _++_}
 use lib.ListN.{length, getD, drop}
 use lib.IntN.{ℤ}
-use mir.Syntax.{w16}
+use mir.Syntax.{w16, w64}
 use mir.Val.{toZ, ofZ}
 
 -- the byte at a position, 0 past the end, and the two-byte number there
@@ -23,6 +23,16 @@ signed16 n = toZ w16 n
 
 abbrev pub bits16 : ℤ → ℕ
 bits16 z = ofZ w16 z
+
+abbrev pub bits64 : ℤ → ℕ
+bits64 z = ofZ w64 z
+
+-- the four and the eight bytes of a number
+unfoldable pub bytes4 : ℕ → List ℕ
+bytes4 n = n / 16777216 % 256 ∷ n / 65536 % 256 ∷ n / 256 % 256 ∷ n % 256 ∷ []
+
+unfoldable pub bytes8 : ℕ → List ℕ
+bytes8 n = bytes4 (n / 4294967296) ++ bytes4 (n % 4294967296)
 
 -- bytes written over the front of an output: later ones stay
 unfoldable pub over : List ℕ → List ℕ → List ℕ

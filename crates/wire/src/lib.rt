@@ -3,7 +3,7 @@ ghost use mathlib.Core.Path.{_≡_};
 ghost use Prim.Native.Nat.{_+_, _*_, _<_, _≤_};
 ghost use lib.ListN.{length};
 ghost use lib.Seq.{sets};
-ghost use Rattle.wire.specs.Bytes.{byteAt, wordAt, signed16, bits16};
+ghost use Rattle.wire.specs.Bytes.{byteAt, wordAt, signed16, bits16, bits64, bytes4, bytes8};
 
 // The byte at a position, 0 past the end.
 pub fn byte(s: &[u8], at: usize) -> u8
@@ -54,4 +54,39 @@ pub fn bits(z: i16) -> u16
     ensures { λ r. ⌜ r ≡ bits16 z ⌝ }
 {
     if z < 0 { 65535 - (!z) as u16 } else { z as u16 }
+}
+
+pub fn bits_long(z: i64) -> u64
+    ensures { λ r. ⌜ r ≡ bits64 z ⌝ }
+{
+    if z < 0 {
+        18446744073709551615 - (!z) as u64
+    } else {
+        z as u64
+    }
+}
+
+// Writes the four bytes of a number.
+pub fn put4(out: &mut [u8], at: usize, n: u32) -> usize
+    requires { ⌜ at + 4 ≤ length (now out) ⌝ }
+    ensures { λ r. ⌜ (r ≡ at + 4) × (now (out .exit) ≡ sets (now (out .entry)) at (bytes4 n)) ⌝ }
+{
+    let b = [
+        (n / 16777216 % 256) as u8,
+        (n / 65536 % 256) as u8,
+        (n / 256 % 256) as u8,
+        (n % 256) as u8,
+    ];
+    put_at(out, at, &b)
+}
+
+// Writes the eight bytes of a number.
+pub fn put8(out: &mut [u8], at: usize, n: u64) -> usize
+    requires { ⌜ at + 8 ≤ length (now out) ⌝ }
+    ensures { λ r. ⌜ (r ≡ at + 8) × (now (out .exit) ≡ sets (now (out .entry)) at (bytes8 n)) ⌝ }
+{
+    let high = (n / 4294967296) as u32;
+    let low = (n % 4294967296) as u32;
+    let middle = put4(out, at, high);
+    put4(out, middle, low)
 }

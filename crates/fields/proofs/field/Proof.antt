@@ -1,4 +1,4 @@
--- `fields::field` meets its contract: the edit where tag and length are right, else the old sheet.
+-- `fields::field` meets its contract: the run where tag and length are right, else the old sheet.
 -- Assumes nothing.
 use mathlib.Core.Path.{sym, _∙_}
 use borrow.Author.Tests.{eq-eqb, ne-eqb}
@@ -10,16 +10,16 @@ use Rattle.fields.proofs.field.Tie as tie
 due-header-requires : tie.Need-due-header-requires
 due-header-requires c κs = search needs
 
-edit-requires : tie.Need-edit-requires
-edit-requires c κs = search needs
+run-requires : tie.Need-run-requires
+run-requires c κs = search needs
 
 returns : tie.Need-returns
 unfolding fieldOf
-returns c = rw (eq-eqb _ _ (sym (c .before .before .due-header .ensures) ∙ c .before .if1 .taken)) (c .edit .ensures)
+returns c = rw (eq-eqb _ _ (sym (c .before .before .due-header .ensures) ∙ c .before .if1 .taken)) (c .run .ensures)
 
 returns-2 : tie.Need-returns-2
 unfolding fieldOf
 returns-2 c = rw (← c .before .due-header .ensures, ne-eqb _ _ (c .if1 .left))
 
 pub field-spec : {M : Type 1} → statement M
-field-spec = tie.close (tie.spec due-header-requires edit-requires returns returns-2)
+field-spec = tie.close (tie.spec due-header-requires run-requires returns returns-2)

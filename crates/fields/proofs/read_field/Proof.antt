@@ -7,13 +7,14 @@ use borrow.Author.Tests.{lt-ltb, le-ltb}
 use Rattle.wire.specs.Bytes.{over}
 use Rattle.fields.specs.Field.{readField, readHeader, answerBytes}
 use Rattle.fields.proofs.Laws.{header-fits}
+use Rattle.fields.proofs.Within.{read-on}
 use borrow.Author.Needs.{needs}
 use Rattle.fields.proofs.read_field.Statement.{statement}
 use Rattle.fields.proofs.read_field.Tie as tie
 
 returns : tie.Need-returns
 unfolding readField over answerBytes
-returns c = record { reading = rw (lt-ltb _ _ (c .if1 .taken)); output = refl }
+returns c = read-on (c .before .before .before .pre) (record { reading = rw (lt-ltb _ _ (c .if1 .taken)); output = refl })
 
 header-of-requires : tie.Need-header-of-requires
 header-of-requires c κs = search needs
@@ -36,7 +37,7 @@ returns-2 c =
     let m = c .before .before .before .before .before .before in
     let e = sym (m .header-of .ensures) ∙ c .before .before .before .before .enum-told .given .1 in
     let p = c .before .before .put-answer .ensures in
-    record { reading = rw (le-ltb _ _ (m .before .if1 .left), e, p .0); output = p .1 }
+    read-on (m .before .before .before .before .pre) (record { reading = rw (le-ltb _ _ (m .before .if1 .left), e, p .0); output = p .1 })
 
 add-field : tie.Need-add-field
 add-field c = omega (arith, header-fits _ _ _ (c .before .before .before .header-of .ensures) (c .before .h .given .1))
@@ -53,14 +54,13 @@ part-field-end c = header-fits _ _ _ (c .before .before .before .header-of .ensu
 field-requires : tie.Need-field-requires
 field-requires c κs = search needs
 
-answer-of-requires : tie.Need-answer-of-requires
-answer-of-requires c κs = search needs
-
 put-answer-requires-2 : tie.Need-put-answer-requires-2
 put-answer-requires-2 c κs = search needs
 
 add-t13 : tie.Need-add-t13
-add-t13 c = omega (arith, header-fits _ _ _ (c .before .before .before .before .before .before .before .before .before .before .before .header-of .ensures) (c .before .before .before .before .before .before .before .before .before .h .given .1))
+add-t13 c =
+    let h = c .before .before .before .before .before .before .before .before in
+    omega (arith, header-fits _ _ _ (h .before .before .header-of .ensures) (h .h .given .1))
 
 same-length-2 : tie.Need-same-length-2
 same-length-2 c = search needs
@@ -68,16 +68,14 @@ same-length-2 c = search needs
 returns-3 : tie.Need-returns-3
 unfolding readField readHeader
 returns-3 c =
-    let a = c .before .before .before .before .before in
-    let h = a .before .before .before .before in
+    let f = c .before .before .before .before .before in
+    let h = f .before .before .before in
     let l = h .h .given .0 .1 .0 in
     let g : 3 + l - 3 ≡ l = omega arith in
     let e = sym (h .before .before .header-of .ensures) ∙ h .h .given .1 in
     let p = c .before .before .before .put-answer2 .ensures in
-    record {
-      reading = rw (le-ltb _ _ (h .before .before .before .if1 .left), e, p .0, a .answer-of .ensures, a .before .field .ensures, g);
-      output = p .1;
-    }
+    read-on (h .before .before .before .before .before .before .pre)
+    (record { reading = rw (le-ltb _ _ (h .before .before .before .if1 .left), e, p .0, f .field .ensures, g); output = p .1 })
 
 pub read-field-spec : {M : Type 1} → statement M
 read-field-spec =
@@ -95,7 +93,6 @@ read-field-spec =
     part-field-start
     part-field-end
     field-requires
-    answer-of-requires
     put-answer-requires-2
     add-t13
     same-length-2

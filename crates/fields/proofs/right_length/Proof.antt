@@ -1,6 +1,6 @@
 -- `fields::right_length` meets its contract, tag by tag.
 -- Assumes nothing.
-use Prim.Native.Nat.{_<_}
+use Prim.Native.Nat.{ℕ, _≤_, _<_}
 use mathlib.Core.Path.{_≡_, sym}
 use mathlib.Core.List.{[], _∷_}
 use mathlib.Core.Logic.{⊎-elim}
@@ -10,6 +10,10 @@ use Rattle.wire.proofs.Cases.{eq-or-ne}
 use Rattle.fields.specs.Field.{lengthOf}
 use Rattle.fields.proofs.right_length.Statement.{statement}
 use Rattle.fields.proofs.right_length.Tie as tie
+
+-- at least k and not k
+past : {n : ℕ} (k : ℕ) → k ≤ n → (n ≡ k → ⊥) → k < n
+past k h f = omega arith
 
 returns : tie.Need-returns
 unfolding lengthOf
@@ -33,15 +37,27 @@ returns-5 c = rw (c .match .keys5)
 
 returns-6 : tie.Need-returns-6
 unfolding lengthOf
-returns-6 c =
+returns-6 c = rw (c .match .keys6)
+
+returns-7 : tie.Need-returns-7
+unfolding lengthOf
+returns-7 c = rw (c .match .keys7)
+
+returns-8 : tie.Need-returns-8
+unfolding lengthOf
+returns-8 c =
     let tag = c .before .args .tag in
     let r = c .match .rest in
     ⊎-elim
     (λ (e : tag ≡ 0). rw e)
     (λ (ne : tag ≡ 0 → ⊥).
-    let g : 5 < tag = omega (arith, r .0 .0 .0 .0 .1, r .0 .0 .0 .1, r .0 .0 .1, r .0 .1, r .1) in
-    sym (List·getD-eq-default (0 ∷ 3 ∷ 2 ∷ 8 ∷ 1 ∷ 7 ∷ []) 0 g))
+    let z : 0 ≤ tag = omega arith in
+    let low = past 2 (past 1 (past 0 z ne) (r .0 .0 .0 .0 .0 .0 .1)) (r .0 .0 .0 .0 .0 .1) in
+    let g = past 7 (past 6 (past 5 (past 4 (past 3 low (r .0 .0 .0 .0 .1)) (r .0 .0 .0 .1)) (r .0 .0 .1)) (r .0 .1)) (r .1) in
+    sym (List·getD-eq-default (0 ∷ 3 ∷ 2 ∷ 8 ∷ 1 ∷ 7 ∷ 2 ∷ 1 ∷ []) 0 g))
     (eq-or-ne tag 0)
 
 pub right-length-spec : {M : Type 1} → statement M
-right-length-spec = tie.close (tie.spec returns returns-2 returns-3 returns-4 returns-5 returns-6)
+right-length-spec =
+    tie.close
+    (tie.spec returns returns-2 returns-3 returns-4 returns-5 returns-6 returns-7 returns-8)

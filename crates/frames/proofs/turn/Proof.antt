@@ -1,0 +1,68 @@
+-- A turn keeps the sheet in range, the bytes held within the input, and both buffers as long as they were.
+-- Assumes nothing.
+use borrow.Author.Needs.{needs}
+use Rattle.frames.proofs.turn.Statement.{statement}
+use Rattle.frames.proofs.turn.Tie as tie
+
+read-some-requires : tie.Need-read-some-requires
+read-some-requires c κs = search needs
+
+sub-answer-all : tie.Need-sub-answer-all
+sub-answer-all c = search needs
+
+part-answer-all-start : tie.Need-part-answer-all-start
+part-answer-all-start c = search needs
+
+part-answer-all-end : tie.Need-part-answer-all-end
+part-answer-all-end c = search needs
+
+answer-all-requires : tie.Need-answer-all-requires
+answer-all-requires c κs = search needs
+
+sub-write-all : tie.Need-sub-write-all
+sub-write-all c = search needs
+
+part-write-all-start : tie.Need-part-write-all-start
+part-write-all-start c = search needs
+
+part-write-all-end : tie.Need-part-write-all-end
+part-write-all-end c = search needs
+
+write-all-requires : tie.Need-write-all-requires
+write-all-requires c κs = search needs
+
+shift-requires : tie.Need-shift-requires
+shift-requires c κs = search needs
+
+sub-t17 : tie.Need-sub-t17
+sub-t17 c = search needs
+
+same-length : tie.Need-same-length
+same-length c = search needs
+
+same-length-2 : tie.Need-same-length-2
+same-length-2 c = search needs
+
+returns : tie.Need-returns
+returns c =
+    let a = c .before .before .before .before .before .before .before .before .before .before .before .before .answer-all .ensures in
+    (a .in-range, search needs, search needs, search needs)
+
+pub turn-spec : {M : Type 1} → statement M
+turn-spec =
+    tie.close
+    (tie.spec
+    read-some-requires
+    sub-answer-all
+    part-answer-all-start
+    part-answer-all-end
+    answer-all-requires
+    sub-write-all
+    part-write-all-start
+    part-write-all-end
+    write-all-requires
+    shift-requires
+    sub-t17
+    same-length
+    same-length-2
+    returns)

@@ -1,0 +1,225 @@
+// Reads tagged fields from standard input and writes one answer field for each, as soon as the field is complete.
+use sheet::Sheet;
+use standard::Settings;
+ghost use mathlib.Core.Path.{_≡_};
+ghost use Prim.Native.Nat.{_≤_, _<_};
+ghost use lib.ListN.{length};
+ghost use Rattle.sheet.specs.Range.{InRange};
+ghost use Rattle.frames.specs.Within.{Within};
+
+// How far the fields at hand are answered, whether another may be, and whether the service stops.
+pub struct Progress {
+    pub sheet: Sheet,
+    pub consumed: usize,
+    pub written: usize,
+    pub more: bool,
+    pub stop: bool,
+}
+
+// Answers one field, after the answers that wait in the output.
+fn answer(p: Progress, input: &[u8], output: &mut [u8]) -> Progress
+    requires { ⌜ Within (p .sheet) (p .consumed) (p .written) (now input) (now output) (now output) ⌝ }
+    ensures { λ r. ⌜ Within (r .sheet) (r .consumed) (r .written) (now (input .entry)) (now (output .entry)) (now (output .exit)) ⌝ }
+{
+    let sheet = p.sheet;
+    let consumed = p.consumed;
+    let written = p.written;
+    let r = fields::read_field(sheet, &input[consumed..], &mut output[written..]);
+    let next = r.sheet;
+    let a = r.answer;
+    let last = fields::is_last(a);
+    Progress {
+        sheet: next,
+        consumed: consumed + r.consumed,
+        written: written + r.written,
+        more: !last,
+        stop: last,
+    }
+}
+
+// Answers the next field where it can be read now and its answer has room. A field that the end of input cuts can be read.
+fn step(p: Progress, ended: bool, input: &[u8], output: &mut [u8]) -> Progress
+    requires { ⌜ Within (p .sheet) (p .consumed) (p .written) (now input) (now output) (now output) ⌝ }
+    ensures { λ r. ⌜ Within (r .sheet) (r .consumed) (r .written) (now (input .entry)) (now (output .entry)) (now (output .exit)) ⌝ }
+{
+    let consumed = p.consumed;
+    let written = p.written;
+    let ready = fields::is_ready(&input[consumed..]);
+    if (ended | ready) & (37 <= output.len() - written) {
+        return answer(p, input, output);
+    }
+    let mut q = p;
+    q.more = false;
+    q
+}
+
+// The turns left after one: a loop ends where it is not to go on.
+fn remaining(more: bool, left: u64) -> u64
+    requires { ⌜ 0 < left ⌝ }
+    ensures { λ r. ⌜ r < left ⌝ }
+{
+    if more { left - 1 } else { 0 }
+}
+
+// Answers the fields at hand. There are fewer of them than bytes, and none is read in no bytes.
+fn answer_all(sheet: Sheet, ended: bool, input: &[u8], output: &mut [u8]) -> Progress
+    requires { ⌜ InRange sheet × (37 ≤ length (now output)) ⌝ }
+    ensures { λ r. ⌜ Within (r .sheet) (r .consumed) (r .written) (now (input .entry)) (now (output .entry)) (now (output .exit)) ⌝ }
+{
+    let mut p = Progress {
+        sheet,
+        consumed: 0,
+        written: 0,
+        more: true,
+        stop: false,
+    };
+    let mut left = input.len() as u64;
+    while left > 0 {
+        p = step(p, ended, input, output);
+        left = remaining(p.more, left);
+    }
+    p
+}
+
+// Moves the bytes between two places down to the start.
+fn shift(buffer: &mut [u8], from: usize, to: usize)
+    requires { ⌜ (from ≤ to) × (to ≤ length (now buffer)) ⌝ }
+    ensures { λ _. ⌜ length (now (buffer .exit)) ≡ length (now (buffer .entry)) ⌝ }
+{
+    if from == 0 {
+        return;
+    }
+    let n = to - from;
+    let mut i = 0;
+    while i < n {
+        buffer[i] = buffer[from + i];
+        i += 1;
+    }
+}
+
+// How many bytes a call has moved so far, and whether another call is to follow.
+pub struct Moved {
+    pub count: usize,
+    pub more: bool,
+}
+
+// Writes some of the bytes that are left. An interrupted call is made again.
+fn write_some(bytes: &[u8], count: usize) -> Moved
+    requires { ⌜ count ≤ length (now bytes) ⌝ }
+    ensures { λ r. ⌜ r .count ≤ length (now (bytes .entry)) ⌝ }
+{
+    let put = libc::write(1, &bytes[count..]);
+    if put < 0 {
+        return Moved {
+            count,
+            more: os::errno() == libc::EINTR,
+        };
+    }
+    let n = io::count(put, &bytes[count..]);
+    let end = count + n;
+    Moved {
+        count: end,
+        more: (0 < n) & (end < bytes.len()),
+    }
+}
+
+// Writes the bytes and says whether all are written: they are not where the output is closed or full.
+fn write_all(bytes: &[u8]) -> bool {
+    if bytes.len() == 0 {
+        return true;
+    }
+    let mut m = Moved {
+        count: 0,
+        more: true,
+    };
+    let mut left = u64::MAX;
+    while left > 0 {
+        let count = m.count;
+        m = write_some(bytes, count);
+        left = remaining(m.more, left);
+    }
+    m.count == bytes.len()
+}
+
+// Reads more bytes after those held, unless a field can be read already. No more follow the end of input or a failed call.
+fn read_some(input: &mut [u8], held: usize) -> Moved
+    requires { ⌜ held ≤ length (now input) ⌝ }
+    ensures { λ r. ⌜ (r .count ≤ length (now (input .entry))) × (length (now (input .exit)) ≡ length (now (input .entry))) ⌝ }
+{
+    if fields::is_ready(&input[0..held]) {
+        return Moved {
+            count: held,
+            more: true,
+        };
+    }
+    let got = libc::read(0, &mut input[held..]);
+    if got < 0 {
+        return Moved {
+            count: held,
+            more: os::errno() == libc::EINTR,
+        };
+    }
+    let n = io::count(got, &input[held..]);
+    Moved {
+        count: held + n,
+        more: 0 < n,
+    }
+}
+
+// What the service keeps from turn to turn: the sheet, how many bytes of input it holds, and whether it goes on.
+pub struct Service {
+    pub sheet: Sheet,
+    pub held: usize,
+    pub more: bool,
+}
+
+// One read at most, the answers to the fields that are then at hand, and one write of them.
+fn turn(s: Service, input: &mut [u8], output: &mut [u8]) -> Service
+    requires { ⌜ InRange (s .sheet) × (s .held ≤ length (now input)) × (37 ≤ length (now output)) ⌝ }
+    ensures { λ r. ⌜ InRange (r .sheet) × (r .held ≤ length (now (input .entry))) × (length (now (input .exit)) ≡ length (now (input .entry))) × (length (now (output .exit)) ≡ length (now (output .entry))) ⌝ }
+{
+    let sheet = s.sheet;
+    let held = s.held;
+    let m = read_some(input, held);
+    let end = m.count;
+    let p = answer_all(sheet, !m.more, &input[0..end], output);
+    let consumed = p.consumed;
+    let written = p.written;
+    let ok = write_all(&output[0..written]);
+    shift(input, consumed, end);
+    let next = p.sheet;
+    Service {
+        sheet: next,
+        held: end - consumed,
+        more: m.more & ok & !p.stop,
+    }
+}
+
+// A proved loop ends, and no fact says that the input does: the turns are counted from a number that no run uses up.
+fn serve(input: &mut [u8], output: &mut [u8])
+    requires { ⌜ 37 ≤ length (now output) ⌝ }
+{
+    let settings = Settings {
+        method: 1,
+        live: 0,
+        zone: 0,
+    };
+    let sheet = Sheet::fresh(settings);
+    let mut s = Service {
+        sheet,
+        held: 0,
+        more: true,
+    };
+    let mut left = u64::MAX;
+    while left > 0 {
+        s = turn(s, input, output);
+        left = remaining(s.more, left);
+    }
+}
+
+// The input buffer holds the largest field, 60,003 bytes.
+fn main() {
+    let mut input = io::large_buffer();
+    let mut output = io::large_buffer();
+    serve(&mut input, &mut output);
+}

@@ -1,0 +1,56 @@
+-- 01, 'A sheet and its seven fields': tags 06 and 07 answer the extremes and the utilisation, and change nothing.
+use Prim.Native.Nat.{ℕ, _+_, _*_}
+use mathlib.Core.List.{List}
+use mathlib.Core.Bool.{cond}
+use lib.ListN.{take, drop}
+use lib.Dec.{ltb, eqb}
+use lib.IntN.{ℤ}
+use Rattle.standard.specs.declared.Capacities.{Capacities}
+use Rattle.envelope.specs.declared.Extremes as extremes
+use Rattle.envelope.specs.declared.Utilised.{Utilised}
+use Rattle.envelope.specs.Range.{effectOf}
+use Rattle.envelope.specs.Envelope.{extremesOf, utilisedOf}
+use Rattle.sheet.specs.declared.Sheet.{Sheet}
+use Rattle.sheet.specs.declared.Answer.{Answer}
+use Rattle.sheet.specs.declared.Answer.the-variants as answer
+use Rattle.sheet.specs.declared.Answered.{Answered}
+use Rattle.sheet.specs.Sheet.{kindAt, capacityAt}
+
+-- the effects of a station, three of each case
+unfoldable pub stationEffects : Sheet → ℕ → List ℤ
+stationEffects s station = take 96 (drop (station * 96) (s .effects))
+
+unfoldable pub capacitiesAt : Sheet → ℕ → Capacities
+capacitiesAt s station = record { n = capacityAt s station 0; y = capacityAt s station 1; z = capacityAt s station 2 }
+
+-- the extremes of a component at a station, and the utilisation there
+unfoldable pub extremesAt : Sheet → ℕ → ℕ → extremes.Extremes
+extremesAt s station j = extremesOf (s .settings) (kindAt s) (λ k. effectOf (stationEffects s station) k j)
+
+unfoldable pub utilisationAt : Sheet → ℕ → Utilised
+utilisationAt s station = utilisedOf (s .settings) (kindAt s) (effectOf (stationEffects s station)) (capacitiesAt s station)
+
+-- 01, 'Answer fields': 6, then 8 (tag 06) or 13 (tag 07)
+unfoldable pub dueExtremes : ℕ → ℕ → ℕ
+dueExtremes station component = cond (ltb 15 station) 6 (cond (ltb 2 component) 8 0)
+
+-- held is the station's first capacity: it has all three or none
+unfoldable pub dueUtilisationAt : ℕ → ℕ → ℕ
+dueUtilisationAt held station = cond (ltb 15 station) 6 (cond (eqb held 0) 13 0)
+
+abbrev pub dueUtilisation : Sheet → ℕ → ℕ
+dueUtilisation s station = dueUtilisationAt (capacityAt s station 0) station
+
+-- a refusal that is due, or the answer
+abbrev pub unlessDue : ℕ → Answer → Answer
+unlessDue due a = cond (eqb due 0) a (answer.Refused due)
+
+unfoldable pub lookedExtremes : Sheet → ℕ → ℕ → Answered
+lookedExtremes s station component = record { answer = unlessDue (dueExtremes station component) (answer.Extremes (extremesAt s station component)); sheet = s }
+
+unfoldable pub lookedUtilisation : Sheet → ℕ → Answered
+lookedUtilisation s station = record { answer = unlessDue (dueUtilisation s station) (answer.Utilisation (utilisationAt s station)); sheet = s }
+
+-- what an edit answers: 0 is accepted
+abbrev pub answerOf : ℕ → Answer
+answerOf due = unlessDue due answer.Accepted

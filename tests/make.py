@@ -1,0 +1,333 @@
+#!/usr/bin/env python3
+"""Makes the stored input and output of `frames` in crates/frames, and further streams for compare.py in made/, beside this file.
+The program is not needed: expected bytes are the scope document's, or are worked out by enumerating every admissible combination
+(model.py, made apart from the library)."""
+import os
+import random
+import struct
+import model as m
+from model import D, F, HP, HV, L, LR, S, R, W, E, FA, f, effects, caps
+
+h = bytes.fromhex
+HERE = os.path.dirname(os.path.abspath(__file__))
+STATS = dict(looks=0, unique=0, tied=0)
+ROWS_SEEN = set()
+
+
+def named(sheet, station, weights, value):
+    """Where several combinations reach the number, the one by docs/DECISIONS.md, "Ties": the first of equal rows; a case acts
+    only where it adds; the first of equal cases of a group; an Hp is low only where that adds. `weights`: weighed effect."""
+    e = {c: sum(w * x for w, x in zip(weights, sheet.eff(c, station))) for c in sheet.kind}
+    reach = []
+    for row, terms, acting, low in sheet.combos():
+        if sum(fa * e[c] for c, fa, _ in terms) != value:
+            continue
+        free = [c for c, _, _ in terms if sheet.kind[c] not in (D, F, HP)]
+        if any(e[c] <= 0 for c in free) or any(l != (e[c] < 0) for c, _, l in terms if sheet.kind[c] == HP):
+            continue
+        reach.append((row, sorted(free), acting, low))
+    row, _, acting, low = min(reach)
+    return row, acting, low
+
+
+def choose(found, sheet, station, patterns):
+    """`found`: all combinations with the greatest number. A unique one is named as it is, else by the tie rule."""
+    STATS['looks'] += 1
+    if len(found) == 1:
+        STATS['unique'] += 1
+        pick = found[0]
+    else:
+        STATS['tied'] += 1
+        for weights, value in patterns:
+            if value is not None:
+                pick = named(sheet, station, weights, value)
+                break
+        assert pick in found
+    ROWS_SEEN.add(pick[0])
+    return pick
+
+
+def extremes(sheet, station, comp):
+    unit = [int(k == comp) for k in range(3)]
+    every = [(sum(fa * sheet.eff(c, station)[comp] for c, fa, _ in t), (r, a, l)) for r, t, a, l in sheet.combos()]
+    out = []
+    for sign in (1, -1):
+        v = max(sign * x for x, _ in every)
+        pick = choose([k for x, k in every if sign * x == v], sheet, station, [([sign * u for u in unit], v)])
+        out.append((sign * v,) + pick)
+    return out
+
+
+def utilisation(sheet, station):
+    nc, yc, zc = sheet.cap[station]
+    unit = (yc * zc, nc * zc, nc * yc)
+    every = []
+    for r, t, a, l in sheet.combos():
+        part = [sum(fa * sheet.eff(c, station)[k] for c, fa, _ in t) for k in range(3)]
+        every.append((sum(abs(p) * u for p, u in zip(part, unit)), part, (r, a, l)))
+    num = max(x for x, _, _ in every)
+    patterns = []
+    for p in range(8):  # bit 0: N taken with a minus sign, bit 1: My, bit 2: Mz; the first of equal patterns
+        w = [-u if p >> k & 1 else u for k, u in enumerate(unit)]
+        best = max(sum(x * y for x, y in zip(w, part)) for _, part, _ in every)
+        patterns.append((w, num if best == num else None))
+    return (num, 1000 * nc * yc * zc) + choose([k for x, _, k in every if x == num], sheet, station, patterns)
+
+
+def serve(sheet, b):
+    """One reading: sheet, answer, bytes consumed."""
+    n = len(b) if m.refusal(sheet, b) == 3 else 3 + (b[1] << 8 | b[2])
+    if not m.refusal(sheet, b) and b[0] == 6:
+        hi, lo = extremes(sheet, b[3], b[4])
+        return sheet, h('860022') + struct.pack('>qBII', *hi) + struct.pack('>qBII', *lo), n
+    if not m.refusal(sheet, b) and b[0] == 7:
+        num, den, row, acting, low = utilisation(sheet, b[3])
+        return sheet, h('87001a') + struct.pack('>qqBBII', num, den, int(num <= den), row, acting, low), n
+    sheet, a = m.serve(sheet, b[:n], None)
+    return sheet, a, n
+
+
+def run(stream):
+    """What frames writes on a stream: stops before an empty reading and after a 3. Also the readings, for reports."""
+    sheet, at, out, steps = m.Sheet(), 0, b'', []
+    while at < len(stream):
+        sheet, a, n = serve(sheet, stream[at:])
+        steps.append((stream[at:at + n], a))
+        at, out = at + n, out + a
+        if a == h('81000103'):
+            break
+    return out, steps
+
+
+def due(stream, numbers):
+    """The refusals of a stream are these, by the paper's table."""
+    got = [a[3] for _, a in run(stream)[1] if a[0] == 0x81]
+    assert got == numbers, (got, numbers)
+
+
+FRESH = f(1, 1, 0, 0)
+P2_IN = h('010003010000 0200020001 0200020105 0200020209 0200020309 0300080000006400000000 0300080100003200000000'
+          '0300080200FF3800000000 0300080300005000000000 0600020000')
+P2_OUT = h('800000') * 9 + h('86 00 22 00 00 00 00 00 03 D0 90 05 00 00 00 0B 00 00 00 00'
+                             'FF FF FF FF FF FE 52 50 07 00 00 00 05 00 00 00 00')
+CUT = {  # each ends with a 3; P2's bytes after a length above 60,000 are not answered
+    'header_cut_after_1_byte': h('01'), 'header_cut_after_2_bytes': h('0100'), 'header_alone': h('010003'),
+    'body_cut': h('01000301'), 'body_cut_after_p2': P2_IN + h('0300080000'),
+    'length_60001_at_once_and_stop': h('01EA61') + P2_IN, 'length_65535_at_once_and_stop': P2_IN + h('01FFFF') + P2_IN,
+    '3_before_1_cut_unknown_tag': h('7F0001'), '3_before_1_long_unknown_tag': h('FFEA61') + P2_IN, '3_before_2_cut_wrong_length': h('04000200'),
+    '3_before_2_long_wrong_length': h('04EA61') + P2_IN, '3_before_4_cut': h('0100030300'), '3_before_5_cut': h('03000820'), '3_before_6_cut': h('06000210'),
+    '3_before_12_cut': h('0300080000'), '3_before_10_cut': h('050007000000'),
+}
+
+
+def refusals():
+    """Point 2 but for the 3s: on the sheet that the service starts with, then each small input."""
+    b = f(4, 0) + f(7, 0) + f(6, 0, 0) + f(3, 0, 0, effects(1, 1, 1))
+    no = [12, 13, 12]
+    small = [('7F0000', 1), ('0400020000', 2), ('010003030000', 4), ('04000120', 5), ('07000110', 6), ('020002000C', 7), ('0600020003', 8),
+             ('0300080000271100000000', 9), ('05000700000000010001', 10), ('04000100', 12), ('07000100', 13)]
+    for s, n in small:
+        b += FRESH + h(s) + f(6, 0, 0)
+        no.append(n)
+    b += FRESH + h('0200020001') * 2 + f(6, 0, 0)
+    no.append(11)
+    b += FRESH
+    for tag in (0x00, 0x08, 0xFF, 0x80, 0x81, 0x86, 0x87):
+        b += f(tag) + f(tag, 1)
+        no += [1, 1]
+    for tag, n in m.LENGTHS.items():
+        b += f(tag, bytes([1] * (n - 1))) + f(tag, bytes([1] * (n + 1)))
+        no += [2, 2]
+    b += f(4, bytes(300)) + f(1)
+    no += [2, 2]
+    # the limits of each value: the first one outside is refused, the last one inside is not
+    for body in ((0, 0, 0), (3, 0, 0), (255, 0, 0), (1, 2, 0), (1, 255, 0), (2, 0, 3), (1, 1, 255)):
+        b += f(1, *body)
+        no.append(4)
+    b += f(2, 31, 11) + f(2, 32, 11) + f(2, 255, 1) + f(2, 30, 0) + f(2, 30, 12) + f(2, 30, 255) + f(4, 31) + f(4, 31) + f(4, 32) + f(4, 255)
+    no += [5, 5, 7, 7, 7, 12, 5, 5]
+    b += f(2, 0, D) + f(3, 0, 15, effects(10000, -10000, 10000)) + f(3, 0, 16, effects(0, 0, 0)) + f(3, 0, 255, effects(0, 0, 0))
+    no += [6, 6]
+    for k in range(3):
+        for x in (10001, -10001, 32767, -32768):
+            b += f(3, 0, 15, effects(*(x if i == k else 1 for i in range(3))))
+            no.append(9)
+    b += f(5, 15, caps(1, 10000, 1)) + f(5, 16, caps(1, 1, 1)) + f(5, 255, caps(1, 1, 1))
+    no += [6, 6]
+    for k in range(3):
+        for x in (0, 10001, 65535):
+            b += f(5, 15, caps(*(x if i == k else 2 for i in range(3))))
+            no.append(10)
+    b += f(6, 15, 0) + f(6, 15, 1) + f(6, 15, 2) + f(7, 15) + f(6, 15, 3) + f(6, 15, 255) + f(6, 16, 0) + f(6, 255, 0) + f(7, 16) + f(7, 255) + f(7, 14)
+    no += [8, 8, 6, 6, 6, 6, 13]
+    due(b, no)
+    return b
+
+
+def orders():
+    """Point 3: where two or more are due, the first; after each, looks that show the sheet as it was."""
+    z, bad = effects(0, 0, 0), [effects(10001, 5, 5), effects(5, -10001, 5), effects(5, 5, 32767)]
+    full = [(f(2, 32, 0), 5), (f(2, 255, 12), 5), (f(2, 0, 0), 7), (f(2, 0, 12), 7), (f(2, 0, 1), 11), (f(2, 0, 9), 11), (f(2, 5, 0), 7),
+            (f(3, 32, 16, z), 5), (f(3, 255, 255, bad[0]), 5), (f(3, 5, 16, z), 6), (f(3, 5, 16, bad[0]), 6), (f(3, 5, 0, z), 12),
+            (f(3, 0, 1, bad[0]), 9), (f(3, 5, 1, effects(7, 7, 7)), 12),
+            (f(4, 32), 5), (f(4, 5), 12), (f(6, 16, 3), 6), (f(6, 255, 255), 6), (f(6, 0, 3), 8), (f(7, 16), 6), (f(7, 1), 13)]
+    for x in bad:
+        full += [(f(3, 32, 0, x), 5), (f(3, 32, 16, x), 5), (f(3, 0, 16, x), 6), (f(3, 5, 0, x), 9), (f(3, 5, 16, x), 6), (f(3, 0, 0, x), 9)]
+    for x in (caps(0, 3, 3), caps(3, 10001, 3), caps(3, 3, 0), caps(0, 0, 0)):
+        full += [(f(5, 16, x), 6), (f(5, 0, x), 10), (f(5, 1, x), 10)]
+    full += [(f(1, *x), 4) for x in ((0, 0, 0), (2, 2, 0), (2, 1, 3), (3, 2, 3))]
+    # 1 before 2 and before any value of the body; 2 before each refusal of a body value and before 11, 12, 13
+    full += [(f(t, bytes([255] * n)), 1) for t in (0x00, 0x08, 0x7F, 0xFF) for n in (1, 2, 3, 8)]
+    full += [(f(1, 3, 2, 3, 0), 2), (f(1, 3, 2), 2), (f(2, 32, 12, 0), 2), (f(2, 32), 2), (f(2, 0, 1, 0), 2), (f(3, 32, 16, bad[0], 0), 2), (f(3, 32, 16), 2),
+             (f(3, 5, 0, z, 0), 2), (f(4, 32, 32), 2), (f(4, 5, 5), 2), (f(5, 16, caps(0, 0, 0), 0), 2), (f(5, 16), 2), (f(5, 0, caps(0, 0, 0)[:5]), 2),
+             (f(6, 16, 3, 0), 2), (f(6, 16), 2), (f(6, 0, 3, 0), 2), (f(7, 16, 0), 2), (f(7, 1, 1), 2)]
+    # a unique combination at each look, so a changed factor, effect or capacity would show
+    b = f(1, 1, 1, 1)
+    for c, k, e in ((0, D, (100, -40, 7)), (1, L, (50, 60, -30)), (2, W, (-200, 90, 15)), (3, W, (80, -70, -25)), (31, HP, (-35, 20, 11)),
+                    (4, FA, (9, 12, 4)), (6, FA, (-8, -9, -3))):
+        b += f(2, c, k) + f(3, c, 0, effects(*e))
+    b += f(5, 0, caps(250, 90, 70))
+    look = f(6, 0, 0) + f(6, 0, 1) + f(6, 0, 2) + f(7, 0) + f(4, 5) + f(7, 1)  # place 5 still empty, station 1 still without
+    no = []
+    b += look
+    no += [12, 13]
+    for field, n in full:
+        b += field + look
+        no += [n, 12, 13]
+    due(b, no)
+    out = run(b)[1]
+    per = len(run(look)[1])
+    tail = out[len(out) - (per + 1) * len(full) - per:]
+    first = [a for _, a in tail[:per]]
+    for i in range(len(full)):
+        assert [a for _, a in tail[per + i * (per + 1) + 1:][:per]] == first
+    return b
+
+
+PAPER = [(0, 0), (250000, -110000), (225000, None), (25000000, 25000000), (25000000, 24900000), (55000, -80000), (100000, None), (120000, None),
+         (100000, None), (46500, None), (100000, None), (160000, None)]
+PAPER_ROW = {9: 28, 10: 7}
+
+
+def frames_by_hand():
+    """Point 4: P1 to P10 (P4 and P7 with two looks each), each number as the paper gives it."""
+    b = b''
+    for i, (fields, _, _) in enumerate(m.worked()):
+        one = b''.join(fields)
+        a = run(one)[1][-1][1]
+        got = struct.unpack('>q', a[3:11])[0], struct.unpack('>q', a[20:28])[0] if a[0] == 0x86 else struct.unpack('>q', a[11:19])[0]
+        want = PAPER[i]
+        assert got[0] == want[0] and want[1] in (None, got[1]), (i, got, want)
+        assert i not in PAPER_ROW or a[11] == PAPER_ROW[i]
+        if a[0] == 0x87:
+            assert a[19] == int(i == 3)
+        b += one
+    return b
+
+
+KINDS = [D, F, HP, HV, L, LR, S, R, W, E, FA, W, FA, E, HP]
+
+
+def settings():
+    return [(me, li, zo) for me in (1, 2) for zo in (0, 1, 2) for li in (0, 1)]
+
+
+def unique_station(values, cap):
+    """The governing rows in all settings, or None where a look has more than one combination."""
+    rows_seen = set()
+    for me, li, zo in settings():
+        s = m.Sheet(me, li, zo)
+        s.kind = dict(enumerate(KINDS))
+        s.effect = {(c, 0): v for c, v in enumerate(values)}
+        u = (cap[1] * cap[2], cap[0] * cap[2], cap[0] * cap[1])
+        best = [None] * 7
+        for r, t, a, l in s.combos():
+            p = [sum(fa * values[c][k] for c, fa, _ in t) for k in range(3)]
+            for i, x in enumerate(p + [-y for y in p] + [sum(abs(y) * w for y, w in zip(p, u))]):
+                if best[i] is None or x > best[i][0]:
+                    best[i] = [x, 1, r]
+                elif x == best[i][0]:
+                    best[i][1] += 1
+        if any(n > 1 for _, n, _ in best):
+            return None
+        rows_seen |= {r for _, _, r in best}
+    return rows_seen
+
+
+STATIONS = []  # (station, effects, capacities), each with a unique combination at every look; found by search()
+
+
+def search(tries, seed):
+    rng, seen, found = random.Random(seed), set(), []
+    for _ in range(tries):
+        def num(k):
+            top = rng.choice([20, 100, 400, 1500])
+            return rng.choice([-1, 1]) * rng.randint(1, top)
+        values = [tuple(num(k) for _ in range(3)) for k in KINDS]
+        # the second W, Fa, E and Hp pull the other way
+        for a, b in ((8, 11), (10, 12), (9, 13), (2, 14)):
+            values[b] = tuple((-1 if x > 0 else 1) * abs(y) for x, y in zip(values[a], values[b]))
+        cap = tuple(rng.randint(200, 3000) for _ in range(3))
+        got = unique_station(values, cap)
+        if got and got - seen:
+            seen |= got
+            found.append((values, cap))
+    return found, seen
+
+
+def every_setting():
+    """Point 5: methods, zones and live options, a case of each kind (W, E, Fa and Hp twice), five stations, no ties."""
+    b = b''
+    assert all(unique_station(v, c) for _, v, c in STATIONS)
+    for me, li, zo in settings():
+        b += f(1, me, li, zo)
+        for c, k in enumerate(KINDS):
+            b += f(2, c, k)
+        for st, values, cap in STATIONS:
+            for c, v in enumerate(values):
+                b += f(3, c, st, effects(*v))
+            b += f(5, st, caps(*cap))
+        for st, _, _ in STATIONS:
+            b += f(6, st, 0) + f(6, st, 1) + f(6, st, 2) + f(7, st)
+    due(b, [])
+    return b
+
+
+def write(path, b):
+    os.makedirs(os.path.dirname(path), exist_ok=True)
+    with open(path, 'wb') as o:
+        o.write(b)
+
+
+def main():
+    import stations
+    STATIONS.extend(stations.STATIONS)
+    crate = os.path.join(HERE, '..', 'crates', 'frames')
+    points = {'1_worked_exchange_p2': P2_IN, '2_each_refusal': refusals(), '3_refusal_orders': orders(), '4_p1_to_p10': frames_by_hand(),
+              '5_methods_zones_live_options': every_setting()}
+    assert run(P2_IN)[0] == P2_OUT
+    end = h('01EA61') + P2_IN  # a 3 at once; what follows is not answered
+    whole = points['2_each_refusal'] + b''.join(points[k] for k in sorted(points) if k[0] != '2') + end
+    write(os.path.join(crate, 'stdin'), whole)
+    write(os.path.join(crate, 'stdout'), run(whole)[0])
+    streams = {k: (b, None) for k, b in points.items()}
+    streams['1_worked_exchange_p2'] = (P2_IN, P2_OUT)
+    for k, b in CUT.items():
+        streams['2_' + k] = (b, (P2_OUT if b.startswith(P2_IN) else b'') + h('81000103'))
+    streams['2_empty_input'] = (b'', b'')
+    streams['2_length_60000_unknown_tag_is_1'] = (f(0x7F, bytes(60000)) + P2_IN, h('81000101') + P2_OUT)
+    streams['2_length_60000_known_tag_is_2'] = (f(1, bytes(60000)) + P2_IN, h('81000102') + P2_OUT)
+    for k, (b, known) in sorted(streams.items()):
+        for key in STATS:
+            STATS[key] = 0
+        ROWS_SEEN.clear()
+        out, steps = run(b)
+        assert known is None or out == known, k
+        write(os.path.join(HERE, 'made', k + '.stdin'), b)
+        write(os.path.join(HERE, 'made', k + '.stdout'), out)
+        print('%-45s %5d readings %6d in %6d out; %d combinations named, %d unique, %d by the tie rule; rows %s'
+              % (k, len(steps), len(b), len(out), STATS['looks'], STATS['unique'], STATS['tied'], sorted(ROWS_SEEN)))
+
+
+if __name__ == '__main__':
+    main()
