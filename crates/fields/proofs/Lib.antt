@@ -2,3 +2,4 @@ pub mod Laws
 pub mod Kept
 pub mod Refused
 pub mod Within
+pub mod Consumed

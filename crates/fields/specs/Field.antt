@@ -7,13 +7,12 @@ use lib.ListN.{length, getD, take, drop}
 use lib.Dec.{ltb, eqb}
 use Rattle.wire.specs.Bytes.{byteAt, wordAt, signed16, bits64, bytes4, bytes8}
 use Rattle.sheet.specs.declared.Sheet.{Sheet}
-use Rattle.sheet.specs.declared.Edited.{Edited}
 use Rattle.sheet.specs.declared.Answered.{Answered}
 use Rattle.sheet.specs.declared.Answer.{Answer}
 use Rattle.sheet.specs.declared.Answer.the-variants as answer
 use Rattle.envelope.specs.declared.Extreme.{Extreme}
 use Rattle.envelope.specs.declared.Utilised.{Utilised}
-use Rattle.sheet.specs.Looks.{lookedExtremes, lookedUtilisation, answerOf}
+use Rattle.sheet.specs.Looks.{lookedExtremes, lookedUtilisation, edited}
 use Rattle.sheet.specs.Sheet.{fresh, withKind, withEffects, withCapacities}
 use Rattle.sheet.specs.Edits.{dueSettings, dueFill, dueEffects, dueEmpty, dueCapacities, tried}
 use Rattle.fields.specs.declared.Header.{Header}
@@ -35,10 +34,6 @@ lengthOf tag = getD (0 ∷ 3 ∷ 2 ∷ 8 ∷ 1 ∷ 7 ∷ 2 ∷ 1 ∷ []) tag 0
 -- 1 for an unknown tag, then 2 for a length that is not the tag's
 unfoldable pub dueHeader : ℕ → ℕ → ℕ
 dueHeader tag len = cond (eqb tag 0) 1 (cond (ltb 7 tag) 1 (cond (eqb len (lengthOf tag)) 0 2))
-
--- an edit's answer: accepted, or its refusal
-abbrev pub edited : Edited → Answered
-edited e = record { answer = answerOf (e .refusal); sheet = e .sheet }
 
 -- the table of tags: each body's values in order, the refusals that they call for, and the effect
 unfoldable pub runOf : Sheet → ℕ → List ℕ → Answered
@@ -90,9 +85,16 @@ abbrev pub refusedWith : ℕ → Sheet → Answered
 refusedWith n s = record { answer = answer.Refused n; sheet = s }
 
 -- 3 consumes all that is left, others the field
+abbrev pub consumedOf : Header → List ℕ → ℕ
+consumedOf Short input = length input
+consumedOf (Field tag len) input = 3 + len
+
+abbrev pub consumedBy : List ℕ → ℕ
+consumedBy input = consumedOf (headerOf input) input
+
 unfoldable pub readHeader : Header → List ℕ → Sheet → Reading
-readHeader Short input s = reading (length input) (refusedWith 3 s)
-readHeader (Field tag len) input s = reading (3 + len) (fieldOf s tag (take len (drop 3 input)))
+readHeader Short input s = reading (consumedOf Short input) (refusedWith 3 s)
+readHeader (Field tag len) input s = reading (consumedOf (Field tag len) input) (fieldOf s tag (take len (drop 3 input)))
 
 -- 14 comes first: under 37 bytes of output for a field; it consumes nothing
 unfoldable pub readField : List ℕ → ℕ → Sheet → Reading

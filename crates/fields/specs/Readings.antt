@@ -3,17 +3,24 @@ use Prim.Native.Nat.{ℕ, _≤_}
 use mathlib.Core.Path.{_≡_}
 use mathlib.Core.List.{List, [], _∷_}
 use lib.ListN.{length, drop}
+use lib.IntN.{ℤ}
 use Rattle.wire.specs.Bytes.{over}
 use Rattle.sheet.specs.declared.Sheet.{Sheet}
 use Rattle.sheet.specs.Range.{InRange}
 use Rattle.sheet.specs.declared.Answer.the-variants.{Accepted}
+use Rattle.sheet.specs.Parts.{whole}
 use Rattle.fields.specs.declared.Reading.{Reading}
+use Rattle.fields.specs.declared.ReadRest.{ReadRest}
 use Rattle.fields.specs.Field.{readField, answerBytes}
 
 -- the input, the output before, the sheet given, the result and the output after, whose later bytes are as they were
 pub record FieldRead (input out : List ℕ) (s : Sheet) (r : Reading) (out′ : List ℕ) : Type 0 where
   pub reading : r ≡ readField input (length out) s
   pub output : out′ ≡ over (answerBytes (r .answer)) out
+
+-- a reading on a sheet whose effects are lent, with them
+abbrev pub wholeReading : ReadRest → List ℤ → Reading
+wholeReading r effects = record { answer = r .answer; sheet = whole (r .rest) effects; consumed = r .consumed; written = r .written }
 
 -- every field of the bytes is accepted, from a sheet to a sheet
 pub data ReadThrough : List ℕ → Sheet → Sheet → Type 0 where

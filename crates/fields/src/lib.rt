@@ -2,21 +2,30 @@
 use envelope::Extreme;
 use envelope::Utilised;
 use sheet::Answer;
-use sheet::Answered;
-use sheet::Edited;
+use sheet::AnsweredRest;
+use sheet::Rest;
 use sheet::Sheet;
 ghost use mathlib.Core.Path.{_≡_};
 ghost use Prim.Native.Nat.{ℕ, _+_, _*_, _<_, _≤_};
 ghost use lib.ListN.{length, getD, drop};
 ghost use Rattle.wire.specs.Bytes.{over};
-ghost use Rattle.fields.specs.Readings.{FieldRead, ReadWithin};
-ghost use Rattle.fields.specs.Field.{readyOf, lastOf, headerOf, lengthOf, dueHeader, edited, runOf, fieldOf, extremeBytes, verdictByte, utilisedBytes, answerBytes};
+ghost use Rattle.fields.specs.Readings.{FieldRead, ReadWithin, wholeReading};
+ghost use Rattle.sheet.specs.Parts.{whole, wholeOf};
+ghost use Rattle.fields.specs.Field.{readyOf, lastOf, consumedBy, headerOf, lengthOf, dueHeader, runOf, fieldOf, extremeBytes, verdictByte, utilisedBytes, answerBytes};
 ghost use Rattle.sheet.specs.Range.{InRange};
 ghost use lib.Seq.{sets};
 
 pub struct Reading {
     pub answer: Answer,
     pub sheet: Sheet,
+    pub consumed: usize,
+    pub written: usize,
+}
+
+// A reading on a sheet whose effects are lent.
+pub struct ReadRest {
+    pub answer: Answer,
+    pub rest: Rest,
     pub consumed: usize,
     pub written: usize,
 }
@@ -68,67 +77,6 @@ fn due_header(tag: u8, len: usize) -> u8
     let d = sheet::first(len == right_length(tag), 0, 2);
     let d = sheet::first(7 < tag, 1, d);
     sheet::first(tag == 0, 1, d)
-}
-
-// An edit's answer.
-fn edited(e: Edited) -> Answered
-    ensures { λ r. ⌜ r ≡ edited e ⌝ }
-{
-    let refusal = e.refusal;
-    let sheet = e.sheet;
-    if refusal == 0 {
-        return Answered {
-            answer: Answer::Accepted,
-            sheet,
-        };
-    }
-    Answered {
-        answer: Answer::Refused(refusal),
-        sheet,
-    }
-}
-
-// A field of known tag and right length.
-fn run(sheet: Sheet, tag: u8, body: &[u8]) -> Answered
-    requires { ⌜ InRange sheet ⌝ }
-    ensures { λ r. ⌜ r ≡ runOf sheet tag (now (body .entry)) ⌝ }
-{
-    let b0 = wire::byte(body, 0);
-    let b1 = wire::byte(body, 1);
-    match tag {
-        1 => edited(sheet.restart(b0, b1, wire::byte(body, 2))),
-        2 => edited(sheet.fill(b0, b1)),
-        3 => edited(sheet.replace_effects(
-            b0,
-            b1,
-            wire::word(body, 2),
-            wire::word(body, 4),
-            wire::word(body, 6),
-        )),
-        4 => edited(sheet.empty(b0)),
-        5 => edited(sheet.replace_capacities(
-            b0,
-            wire::word(body, 1),
-            wire::word(body, 3),
-            wire::word(body, 5),
-        )),
-        6 => sheet.look_extremes(b0, b1),
-        _ => sheet.look_utilisation(b0),
-    }
-}
-
-fn field(sheet: Sheet, tag: u8, body: &[u8]) -> Answered
-    requires { ⌜ InRange sheet ⌝ }
-    ensures { λ r. ⌜ r ≡ fieldOf sheet tag (now (body .entry)) ⌝ }
-{
-    let due = due_header(tag, body.len());
-    if due == 0 {
-        return run(sheet, tag, body);
-    }
-    Answered {
-        answer: Answer::Refused(due),
-        sheet,
-    }
 }
 
 fn put_extreme(out: &mut [u8], at: usize, x: Extreme) -> usize
@@ -192,10 +140,77 @@ pub fn read_field(sheet: Sheet, input: &[u8], out: &mut [u8]) -> Reading
     requires { ⌜ InRange sheet ⌝ }
     ensures { λ r. ⌜ FieldRead (now (input .entry)) (now (out .entry)) sheet r (now (out .exit)) × ReadWithin (now (input .entry)) (now (out .entry)) r (now (out .exit)) ⌝ }
 {
+    let mut effects = sheet.effects;
+    let r = read_in(sheet.rest(), &mut effects, input, out);
+    let answer = r.answer;
+    let rest = r.rest;
+    Reading {
+        answer,
+        sheet: rest.with_effects(effects),
+        consumed: r.consumed,
+        written: r.written,
+    }
+}
+
+// A field of known tag and right length, on a sheet whose effects are lent.
+fn run_in(rest: Rest, effects: &mut [i16; 1536], tag: u8, body: &[u8]) -> AnsweredRest
+    requires { ⌜ InRange (whole rest (now effects)) ⌝ }
+    ensures { λ r. ⌜ wholeOf r (now (effects .exit)) ≡ runOf (whole rest (now (effects .entry))) tag (now (body .entry)) ⌝ }
+{
+    let b0 = wire::byte(body, 0);
+    let b1 = wire::byte(body, 1);
+    match tag {
+        1 => rest.restart(effects, b0, b1, wire::byte(body, 2)),
+        2 => rest.fill(effects, b0, b1),
+        3 => rest.replace_effects(
+            effects,
+            b0,
+            b1,
+            wire::word(body, 2),
+            wire::word(body, 4),
+            wire::word(body, 6),
+        ),
+        4 => rest.empty(effects, b0),
+        5 => rest.replace_capacities(
+            b0,
+            wire::word(body, 1),
+            wire::word(body, 3),
+            wire::word(body, 5),
+        ),
+        6 => {
+            let answer = rest.look_extremes(effects, b0, b1);
+            AnsweredRest { answer, rest }
+        }
+        _ => {
+            let answer = rest.look_utilisation(effects, b0);
+            AnsweredRest { answer, rest }
+        }
+    }
+}
+
+fn field_in(rest: Rest, effects: &mut [i16; 1536], tag: u8, body: &[u8]) -> AnsweredRest
+    requires { ⌜ InRange (whole rest (now effects)) ⌝ }
+    ensures { λ r. ⌜ wholeOf r (now (effects .exit)) ≡ fieldOf (whole rest (now (effects .entry))) tag (now (body .entry)) ⌝ }
+{
+    let due = due_header(tag, body.len());
+    if due == 0 {
+        return run_in(rest, effects, tag, body);
+    }
+    AnsweredRest {
+        answer: Answer::Refused(due),
+        rest,
+    }
+}
+
+// The same reading as `read_field`, on a sheet whose effects are lent, so that it copies none.
+pub fn read_in(rest: Rest, effects: &mut [i16; 1536], input: &[u8], out: &mut [u8]) -> ReadRest
+    requires { ⌜ InRange (whole rest (now effects)) ⌝ }
+    ensures { λ r. ⌜ FieldRead (now (input .entry)) (now (out .entry)) (whole rest (now (effects .entry))) (wholeReading r (now (effects .exit))) (now (out .exit)) × ReadWithin (now (input .entry)) (now (out .entry)) (wholeReading r (now (effects .exit))) (now (out .exit)) ⌝ }
+{
     if out.len() < 37 {
-        return Reading {
+        return ReadRest {
             answer: Answer::Refused(14),
-            sheet,
+            rest,
             consumed: 0,
             written: 0,
         };
@@ -204,23 +219,34 @@ pub fn read_field(sheet: Sheet, input: &[u8], out: &mut [u8]) -> Reading
     let Header::Field { tag, len } = h else {
         let refused = Answer::Refused(3);
         let written = put_answer(out, refused);
-        return Reading {
+        return ReadRest {
             answer: refused,
-            sheet,
+            rest,
             consumed: input.len(),
             written,
         };
     };
-    let a = field(sheet, tag, &input[3..3 + len]);
+    let a = field_in(rest, effects, tag, &input[3..3 + len]);
     let answer = a.answer;
     let written = put_answer(out, answer);
-    let s = a.sheet;
-    Reading {
+    let r = a.rest;
+    ReadRest {
         answer,
-        sheet: s,
+        rest: r,
         consumed: 3 + len,
         written,
     }
+}
+
+// How many bytes a reading consumes: the field, or all that is left where it is cut.
+pub fn consumed_by(input: &[u8]) -> usize
+    ensures { λ r. ⌜ r ≡ consumedBy (now (input .entry)) ⌝ }
+{
+    let h = header_of(input);
+    let Header::Field { tag: _, len } = h else {
+        return input.len();
+    };
+    3 + len
 }
 
 // Whether what is at hand can be read now: a whole field, or a header that calls for 3 whatever follows.

@@ -1,15 +1,16 @@
 // Reads tagged fields from standard input and writes one answer field for each, as soon as the field is complete.
-use sheet::Sheet;
+use sheet::Rest;
 use standard::Settings;
 ghost use mathlib.Core.Path.{_≡_};
 ghost use Prim.Native.Nat.{_≤_, _<_};
 ghost use lib.ListN.{length};
 ghost use Rattle.sheet.specs.Range.{InRange};
+ghost use Rattle.sheet.specs.Parts.{whole};
 ghost use Rattle.frames.specs.Within.{Within};
 
-// How far the fields at hand are answered, whether another may be, and whether the service stops.
+// The sheet apart from its effects, how far the fields at hand are answered, whether another may be, and whether the service stops.
 pub struct Progress {
-    pub sheet: Sheet,
+    pub rest: Rest,
     pub consumed: usize,
     pub written: usize,
     pub more: bool,
@@ -17,19 +18,19 @@ pub struct Progress {
 }
 
 // Answers one field, after the answers that wait in the output.
-fn answer(p: Progress, input: &[u8], output: &mut [u8]) -> Progress
-    requires { ⌜ Within (p .sheet) (p .consumed) (p .written) (now input) (now output) (now output) ⌝ }
-    ensures { λ r. ⌜ Within (r .sheet) (r .consumed) (r .written) (now (input .entry)) (now (output .entry)) (now (output .exit)) ⌝ }
+fn answer(p: Progress, effects: &mut [i16; 1536], input: &[u8], output: &mut [u8]) -> Progress
+    requires { ⌜ Within (whole (p .rest) (now effects)) (p .consumed) (p .written) (now input) (now output) (now output) ⌝ }
+    ensures { λ r. ⌜ Within (whole (r .rest) (now (effects .exit))) (r .consumed) (r .written) (now (input .entry)) (now (output .entry)) (now (output .exit)) ⌝ }
 {
-    let sheet = p.sheet;
+    let rest = p.rest;
     let consumed = p.consumed;
     let written = p.written;
-    let r = fields::read_field(sheet, &input[consumed..], &mut output[written..]);
-    let next = r.sheet;
+    let r = fields::read_in(rest, effects, &input[consumed..], &mut output[written..]);
+    let next = r.rest;
     let a = r.answer;
     let last = fields::is_last(a);
     Progress {
-        sheet: next,
+        rest: next,
         consumed: consumed + r.consumed,
         written: written + r.written,
         more: !last,
@@ -38,15 +39,21 @@ fn answer(p: Progress, input: &[u8], output: &mut [u8]) -> Progress
 }
 
 // Answers the next field where it can be read now and its answer has room. A field that the end of input cuts can be read.
-fn step(p: Progress, ended: bool, input: &[u8], output: &mut [u8]) -> Progress
-    requires { ⌜ Within (p .sheet) (p .consumed) (p .written) (now input) (now output) (now output) ⌝ }
-    ensures { λ r. ⌜ Within (r .sheet) (r .consumed) (r .written) (now (input .entry)) (now (output .entry)) (now (output .exit)) ⌝ }
+fn step(
+    p: Progress,
+    effects: &mut [i16; 1536],
+    ended: bool,
+    input: &[u8],
+    output: &mut [u8],
+) -> Progress
+    requires { ⌜ Within (whole (p .rest) (now effects)) (p .consumed) (p .written) (now input) (now output) (now output) ⌝ }
+    ensures { λ r. ⌜ Within (whole (r .rest) (now (effects .exit))) (r .consumed) (r .written) (now (input .entry)) (now (output .entry)) (now (output .exit)) ⌝ }
 {
     let consumed = p.consumed;
     let written = p.written;
     let ready = fields::is_ready(&input[consumed..]);
     if (ended | ready) & (37 <= output.len() - written) {
-        return answer(p, input, output);
+        return answer(p, effects, input, output);
     }
     let mut q = p;
     q.more = false;
@@ -62,12 +69,18 @@ fn remaining(more: bool, left: u64) -> u64
 }
 
 // Answers the fields at hand. There are fewer of them than bytes, and none is read in no bytes.
-fn answer_all(sheet: Sheet, ended: bool, input: &[u8], output: &mut [u8]) -> Progress
-    requires { ⌜ InRange sheet × (37 ≤ length (now output)) ⌝ }
-    ensures { λ r. ⌜ Within (r .sheet) (r .consumed) (r .written) (now (input .entry)) (now (output .entry)) (now (output .exit)) ⌝ }
+fn answer_all(
+    rest: Rest,
+    effects: &mut [i16; 1536],
+    ended: bool,
+    input: &[u8],
+    output: &mut [u8],
+) -> Progress
+    requires { ⌜ InRange (whole rest (now effects)) × (37 ≤ length (now output)) ⌝ }
+    ensures { λ r. ⌜ Within (whole (r .rest) (now (effects .exit))) (r .consumed) (r .written) (now (input .entry)) (now (output .entry)) (now (output .exit)) ⌝ }
 {
     let mut p = Progress {
-        sheet,
+        rest,
         consumed: 0,
         written: 0,
         more: true,
@@ -75,7 +88,7 @@ fn answer_all(sheet: Sheet, ended: bool, input: &[u8], output: &mut [u8]) -> Pro
     };
     let mut left = input.len() as u64;
     while left > 0 {
-        p = step(p, ended, input, output);
+        p = step(p, effects, ended, input, output);
         left = remaining(p.more, left);
     }
     p
@@ -166,30 +179,30 @@ fn read_some(input: &mut [u8], held: usize) -> Moved
     }
 }
 
-// What the service keeps from turn to turn: the sheet, how many bytes of input it holds, and whether it goes on.
+// What the service keeps from turn to turn: the sheet apart from its effects, how many bytes of input it holds, and whether it goes on.
 pub struct Service {
-    pub sheet: Sheet,
+    pub rest: Rest,
     pub held: usize,
     pub more: bool,
 }
 
 // One read at most, the answers to the fields that are then at hand, and one write of them.
-fn turn(s: Service, input: &mut [u8], output: &mut [u8]) -> Service
-    requires { ⌜ InRange (s .sheet) × (s .held ≤ length (now input)) × (37 ≤ length (now output)) ⌝ }
-    ensures { λ r. ⌜ InRange (r .sheet) × (r .held ≤ length (now (input .entry))) × (length (now (input .exit)) ≡ length (now (input .entry))) × (length (now (output .exit)) ≡ length (now (output .entry))) ⌝ }
+fn turn(s: Service, effects: &mut [i16; 1536], input: &mut [u8], output: &mut [u8]) -> Service
+    requires { ⌜ InRange (whole (s .rest) (now effects)) × (s .held ≤ length (now input)) × (37 ≤ length (now output)) ⌝ }
+    ensures { λ r. ⌜ InRange (whole (r .rest) (now (effects .exit))) × (r .held ≤ length (now (input .entry))) × (length (now (input .exit)) ≡ length (now (input .entry))) × (length (now (output .exit)) ≡ length (now (output .entry))) ⌝ }
 {
-    let sheet = s.sheet;
+    let rest = s.rest;
     let held = s.held;
     let m = read_some(input, held);
     let end = m.count;
-    let p = answer_all(sheet, !m.more, &input[0..end], output);
+    let p = answer_all(rest, effects, !m.more, &input[0..end], output);
     let consumed = p.consumed;
     let written = p.written;
     let ok = write_all(&output[0..written]);
     shift(input, consumed, end);
-    let next = p.sheet;
+    let next = p.rest;
     Service {
-        sheet: next,
+        rest: next,
         held: end - consumed,
         more: m.more & ok & !p.stop,
     }
@@ -204,15 +217,20 @@ fn serve(input: &mut [u8], output: &mut [u8])
         live: 0,
         zone: 0,
     };
-    let sheet = Sheet::fresh(settings);
+    let rest = Rest {
+        settings,
+        kinds: [0u8; 32],
+        capacities: [0u16; 48],
+    };
+    let mut effects = [0i16; 1536];
     let mut s = Service {
-        sheet,
+        rest,
         held: 0,
         more: true,
     };
     let mut left = u64::MAX;
     while left > 0 {
-        s = turn(s, input, output);
+        s = turn(s, &mut effects, input, output);
         left = remaining(s.more, left);
     }
 }

@@ -1,4 +1,4 @@
-// A second judge of the load-combination service, made from the paper alone: it holds its own picture of the sheet,
+// A second checker, made from the scope document alone and apart from the library: it keeps the sheet itself,
 // works out what each answer must be, and tries every admissible combination of a small sheet.
 
 pub mod bytes; // bytes.rt: bytes of fields and answers

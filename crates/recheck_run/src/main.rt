@@ -1,5 +1,5 @@
 // Runs the library's reader over the stored fields on standard input, passes every field and its answer to the second
-// judge (crate recheck), and writes a summary.
+// checker (crate recheck), and writes a summary.
 use recheck::Model;
 use sheet::Answer;
 use sheet::Sheet;
@@ -26,7 +26,7 @@ pub struct Tally {
     pub first: u64,
 }
 
-// The reader's sheet, the judge's, and the place of the next field.
+// The reader's sheet, the second checker's, and the place of the next field.
 pub struct Run {
     pub sheet: Sheet,
     pub model: Model,
@@ -145,7 +145,7 @@ fn with_reading(t: Tally, ok: bool, looked: bool, skipped: bool, refused: bool) 
     with_difference(u, number)
 }
 
-// One reading with room for every answer, and its judgement.
+// One reading with room for every answer, and what the second checker says of it.
 fn read_and_judge(run: Run, input: &[u8], out: &mut [u8]) -> Run
     requires { ⌜ Place (run .sheet) (run .start) (now input) ⌝ }
     ensures { λ r. ⌜ Place (r .sheet) (r .start) (now (input .entry)) ⌝ }

@@ -2,3 +2,4 @@ pub mod Refusals
 pub mod Access
 pub mod Kept
 pub mod Stations
+pub mod Parts

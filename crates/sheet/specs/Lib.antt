@@ -2,3 +2,4 @@ pub mod Sheet
 pub mod Edits
 pub mod Range
 pub mod Looks
+pub mod Parts

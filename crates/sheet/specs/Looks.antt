@@ -1,5 +1,5 @@
 -- 01, 'A sheet and its seven fields': tags 06 and 07 answer the extremes and the utilisation, and change nothing.
-use Prim.Native.Nat.{ℕ, _+_, _*_}
+use Prim.Native.Nat.{ℕ, _*_}
 use mathlib.Core.List.{List}
 use mathlib.Core.Bool.{cond}
 use lib.ListN.{take, drop}
@@ -14,6 +14,7 @@ use Rattle.sheet.specs.declared.Sheet.{Sheet}
 use Rattle.sheet.specs.declared.Answer.{Answer}
 use Rattle.sheet.specs.declared.Answer.the-variants as answer
 use Rattle.sheet.specs.declared.Answered.{Answered}
+use Rattle.sheet.specs.declared.Edited.{Edited}
 use Rattle.sheet.specs.Sheet.{kindAt, capacityAt}
 
 -- the effects of a station, three of each case
@@ -54,3 +55,7 @@ lookedUtilisation s station = record { answer = unlessDue (dueUtilisation s stat
 -- what an edit answers: 0 is accepted
 abbrev pub answerOf : ℕ → Answer
 answerOf due = unlessDue due answer.Accepted
+
+-- an edit's answer: accepted, or its refusal
+abbrev pub edited : Edited → Answered
+edited e = record { answer = answerOf (e .refusal); sheet = e .sheet }

@@ -1,12 +1,16 @@
 // The sheet: settings, 32 case places and 16 stations, and the edits of tags 01 to 05.
 ghost use mathlib.Core.Path.{_≡_};
-ghost use lib.ListN.{getD};
+ghost use lib.ListN.{length, getD, set};
+ghost use lib.Seq.{sets};
+ghost use lib.IntN.{ℤ};
+ghost use mathlib.Core.List.{List, [], _∷_};
 ghost use mathlib.Core.Bool.{cond};
 ghost use Prim.Native.Nat.{_+_, _*_, _<_};
 ghost use Rattle.wire.specs.Bytes.{signed16};
-ghost use Rattle.sheet.specs.Sheet.{fresh, cleared, withKind, withEffects, withCapacities, capacityAt};
+ghost use Rattle.sheet.specs.Sheet.{zeros, fresh, cleared, withKind, withEffects, withCapacities, capacityAt};
 ghost use Rattle.sheet.specs.Range.{InRange};
-ghost use Rattle.sheet.specs.Looks.{extremesAt, utilisationAt, dueExtremes, dueUtilisationAt, lookedExtremes, lookedUtilisation};
+ghost use Rattle.sheet.specs.Looks.{extremesAt, utilisationAt, unlessDue, edited, dueExtremes, dueUtilisation, dueUtilisationAt, lookedExtremes, lookedUtilisation};
+ghost use Rattle.sheet.specs.Parts.{restOf, whole, wholeOf};
 ghost use Rattle.sheet.specs.Edits.{effectOutside, capacityOutside, kindOutside, methodOutside, dueSettings, dueFill, dueFillAt, dueEffects, dueEffectsAt, dueEmpty, dueEmptyAt, dueCapacities, tried};
 use envelope::Extremes;
 use envelope::Utilised;
@@ -34,10 +38,23 @@ pub struct Answered {
     pub sheet: Sheet,
 }
 
-// What an edit did: the refusal's number, or 0, and the sheet.
+// For the definitions: the refusal of an edit, or 0, and the sheet after it.
 pub struct Edited {
     pub refusal: u8,
     pub sheet: Sheet,
+}
+
+// A sheet apart from its effects: the fields that work on it are lent those, and copy none.
+pub struct Rest {
+    pub settings: Settings,
+    pub kinds: [u8; 32],
+    pub capacities: [u16; 48],
+}
+
+// An answer with the rest beside it.
+pub struct AnsweredRest {
+    pub answer: Answer,
+    pub rest: Rest,
 }
 
 fn effect_outside(raw: u16) -> bool
@@ -144,140 +161,65 @@ impl Sheet {
         }
     }
 
-    fn with_kind(self, case: usize, kind: u8) -> Sheet
-        requires { ⌜ case < 32 ⌝ }
-        ensures { λ r. ⌜ r ≡ withKind self case kind ⌝ }
+    // The sheet apart from its effects.
+    pub fn rest(self) -> Rest
+        ensures { λ r. ⌜ r ≡ restOf self ⌝ }
     {
-        let mut s = self;
-        s.kinds[case] = kind;
-        clear_case(&mut s.effects, case);
-        s
-    }
-
-    fn with_effects(self, case: usize, station: usize, n: i16, y: i16, z: i16) -> Sheet
-        requires { ⌜ (case < 32) × (station < 16) ⌝ }
-        ensures { λ r. ⌜ r ≡ withEffects self case station n y z ⌝ }
-    {
-        let mut s = self;
-        let at = station * 96 + case * 3;
-        s.effects[at] = n;
-        s.effects[at + 1] = y;
-        s.effects[at + 2] = z;
-        s
-    }
-
-    fn with_capacities(self, station: usize, n: u16, y: u16, z: u16) -> Sheet
-        requires { ⌜ station < 16 ⌝ }
-        ensures { λ r. ⌜ r ≡ withCapacities self station n y z ⌝ }
-    {
-        let mut s = self;
-        let at = station * 3;
-        s.capacities[at] = n;
-        s.capacities[at + 1] = y;
-        s.capacities[at + 2] = z;
-        s
+        let settings = self.settings;
+        let kinds = self.kinds;
+        let capacities = self.capacities;
+        Rest {
+            settings,
+            kinds,
+            capacities,
+        }
     }
 
     // Tag 01.
-    pub fn restart(self, method: u8, live: u8, zone: u8) -> Edited
-        ensures { λ r. ⌜ r ≡ tried (dueSettings method live zone) self (fresh (record { method = method; live = live; zone = zone })) ⌝ }
+    pub fn restart(self, method: u8, live: u8, zone: u8) -> Answered
+        requires { ⌜ InRange self ⌝ }
+        ensures { λ r. ⌜ r ≡ edited (tried (dueSettings method live zone) self (fresh (record { method = method; live = live; zone = zone }))) ⌝ }
     {
-        let due = due_settings(method, live, zone);
-        if due == 0 {
-            let s = Sheet::fresh(Settings { method, live, zone });
-            return Edited {
-                refusal: 0,
-                sheet: s,
-            };
-        }
-        Edited {
-            refusal: due,
-            sheet: self,
-        }
+        let mut effects = self.effects;
+        let r = self.rest().restart(&mut effects, method, live, zone);
+        r.with_effects(effects)
     }
 
     // Tag 02.
-    pub fn fill(self, case: u8, kind: u8) -> Edited
-        ensures { λ r. ⌜ r ≡ tried (dueFill self case kind) self (withKind self case kind) ⌝ }
+    pub fn fill(self, case: u8, kind: u8) -> Answered
+        ensures { λ r. ⌜ r ≡ edited (tried (dueFill self case kind) self (withKind self case kind)) ⌝ }
     {
-        let k = case as usize;
-        let held = wire::byte(&self.kinds, k);
-        let due = due_fill(case, kind, held);
-        if due == 0 {
-            let s = self.with_kind(k, kind);
-            return Edited {
-                refusal: 0,
-                sheet: s,
-            };
-        }
-        Edited {
-            refusal: due,
-            sheet: self,
-        }
+        let mut effects = self.effects;
+        let r = self.rest().fill(&mut effects, case, kind);
+        r.with_effects(effects)
     }
 
     // Tag 03.
-    pub fn replace_effects(self, case: u8, station: u8, n: u16, y: u16, z: u16) -> Edited
-        ensures { λ r. ⌜ r ≡ tried (dueEffects self case station n y z) self (withEffects self case station (signed16 n) (signed16 y) (signed16 z)) ⌝ }
+    pub fn replace_effects(self, case: u8, station: u8, n: u16, y: u16, z: u16) -> Answered
+        ensures { λ r. ⌜ r ≡ edited (tried (dueEffects self case station n y z) self (withEffects self case station (signed16 n) (signed16 y) (signed16 z))) ⌝ }
     {
-        let k = case as usize;
-        let held = wire::byte(&self.kinds, k);
-        let due = due_effects(case, station, n, y, z, held);
-        if due == 0 {
-            let s = self.with_effects(
-                k,
-                station as usize,
-                wire::signed(n),
-                wire::signed(y),
-                wire::signed(z),
-            );
-            return Edited {
-                refusal: 0,
-                sheet: s,
-            };
-        }
-        Edited {
-            refusal: due,
-            sheet: self,
-        }
+        let mut effects = self.effects;
+        let r = self.rest()
+            .replace_effects(&mut effects, case, station, n, y, z);
+        r.with_effects(effects)
     }
 
     // Tag 04.
-    pub fn empty(self, case: u8) -> Edited
-        ensures { λ r. ⌜ r ≡ tried (dueEmpty self case) self (withKind self case 0) ⌝ }
+    pub fn empty(self, case: u8) -> Answered
+        ensures { λ r. ⌜ r ≡ edited (tried (dueEmpty self case) self (withKind self case 0)) ⌝ }
     {
-        let k = case as usize;
-        let held = wire::byte(&self.kinds, k);
-        let due = due_empty(case, held);
-        if due == 0 {
-            let s = self.with_kind(k, 0);
-            return Edited {
-                refusal: 0,
-                sheet: s,
-            };
-        }
-        Edited {
-            refusal: due,
-            sheet: self,
-        }
+        let mut effects = self.effects;
+        let r = self.rest().empty(&mut effects, case);
+        r.with_effects(effects)
     }
 
     // Tag 05.
-    pub fn replace_capacities(self, station: u8, n: u16, y: u16, z: u16) -> Edited
-        ensures { λ r. ⌜ r ≡ tried (dueCapacities station n y z) self (withCapacities self station n y z) ⌝ }
+    pub fn replace_capacities(self, station: u8, n: u16, y: u16, z: u16) -> Answered
+        ensures { λ r. ⌜ r ≡ edited (tried (dueCapacities station n y z) self (withCapacities self station n y z)) ⌝ }
     {
-        let due = due_capacities(station, n, y, z);
-        if due == 0 {
-            let s = self.with_capacities(station as usize, n, y, z);
-            return Edited {
-                refusal: 0,
-                sheet: s,
-            };
-        }
-        Edited {
-            refusal: due,
-            sheet: self,
-        }
+        let effects = self.effects;
+        let r = self.rest().replace_capacities(station, n, y, z);
+        r.with_effects(effects)
     }
 
     // Tag 06.
@@ -285,29 +227,12 @@ impl Sheet {
         requires { ⌜ InRange self ⌝ }
         ensures { λ r. ⌜ r ≡ lookedExtremes self station component ⌝ }
     {
-        let due = due_extremes(station, component);
-        if due == 0 {
-            let x = self.extremes_at(station as usize, component as usize);
-            return Answered {
-                answer: Answer::Extremes(x),
-                sheet: self,
-            };
-        }
+        let effects = self.effects;
+        let answer = self.rest().look_extremes(&effects, station, component);
         Answered {
-            answer: Answer::Refused(due),
+            answer,
             sheet: self,
         }
-    }
-
-    fn extremes_at(self, station: usize, component: usize) -> Extremes
-        requires { ⌜ (station < 16) × (component < 3) × InRange self ⌝ }
-        ensures { λ r. ⌜ r ≡ extremesAt self station component ⌝ }
-    {
-        let kinds = self.kinds;
-        let effects = self.effects;
-        let from = station * 96;
-        let to = from + 96;
-        envelope::extremes_of(self.settings, &kinds, &effects[from..to], component)
     }
 
     // Tag 07.
@@ -315,37 +240,12 @@ impl Sheet {
         requires { ⌜ InRange self ⌝ }
         ensures { λ r. ⌜ r ≡ lookedUtilisation self station ⌝ }
     {
-        let t = station as usize;
-        let n = number_at(&self.capacities, t * 3);
-        let due = due_utilisation(station, n);
-        if due == 0 {
-            let x = self.utilisation_at(t);
-            return Answered {
-                answer: Answer::Utilisation(x),
-                sheet: self,
-            };
-        }
+        let effects = self.effects;
+        let answer = self.rest().look_utilisation(&effects, station);
         Answered {
-            answer: Answer::Refused(due),
+            answer,
             sheet: self,
         }
-    }
-
-    fn utilisation_at(self, station: usize) -> Utilised
-        requires { ⌜ (station < 16) × (0 < capacityAt self station 0) × InRange self ⌝ }
-        ensures { λ r. ⌜ r ≡ utilisationAt self station ⌝ }
-    {
-        let kinds = self.kinds;
-        let effects = self.effects;
-        let from = station * 96;
-        let to = from + 96;
-        let at = station * 3;
-        let p = Capacities {
-            n: self.capacities[at],
-            y: self.capacities[at + 1],
-            z: self.capacities[at + 2],
-        };
-        envelope::utilisation_of(self.settings, &kinds, &effects[from..to], p)
     }
 }
 
@@ -372,4 +272,246 @@ fn number_at(s: &[u16], at: usize) -> u16
         return s[at];
     }
     0
+}
+
+// Replaces three effects.
+fn put_effects(effects: &mut [i16; 1536], at: usize, n: i16, y: i16, z: i16)
+    requires { ⌜ at + 2 < 1536 ⌝ }
+    ensures { λ _. ⌜ now (effects .exit) ≡ sets (now (effects .entry)) at (n ∷ y ∷ z ∷ []) ⌝ }
+{
+    effects[at] = n;
+    effects[at + 1] = y;
+    effects[at + 2] = z;
+}
+
+// Sets all effects to 0.
+fn clear_all(effects: &mut [i16; 1536])
+    requires { ⌜ length (now effects) ≡ 1536 ⌝ }
+    ensures { λ _. ⌜ now (effects .exit) ≡ zeros 1536 ⌝ }
+{
+    let mut i: usize = 0;
+    while i < 1536 {
+        effects[i] = 0;
+        i += 1;
+    }
+}
+
+impl AnsweredRest {
+    // The answer with the whole sheet beside it.
+    fn with_effects(self, effects: [i16; 1536]) -> Answered
+        ensures { λ r. ⌜ r ≡ wholeOf self effects ⌝ }
+    {
+        let answer = self.answer;
+        let rest = self.rest;
+        Answered {
+            answer,
+            sheet: rest.with_effects(effects),
+        }
+    }
+}
+
+impl Rest {
+    // The whole sheet.
+    pub fn with_effects(self, effects: [i16; 1536]) -> Sheet
+        ensures { λ r. ⌜ r ≡ whole self effects ⌝ }
+    {
+        let settings = self.settings;
+        let kinds = self.kinds;
+        let capacities = self.capacities;
+        Sheet {
+            settings,
+            kinds,
+            effects,
+            capacities,
+        }
+    }
+
+    fn with_kind(self, case: usize, kind: u8) -> Rest
+        requires { ⌜ case < 32 ⌝ }
+        ensures { λ r. ⌜ r ≡ record { settings = self .settings; kinds = set (self .kinds) case kind; capacities = self .capacities } ⌝ }
+    {
+        let mut r = self;
+        r.kinds[case] = kind;
+        r
+    }
+
+    fn with_capacities(self, station: usize, n: u16, y: u16, z: u16) -> Rest
+        requires { ⌜ station < 16 ⌝ }
+        ensures { λ r. ⌜ r ≡ record { settings = self .settings; kinds = self .kinds; capacities = sets (self .capacities) (station * 3) (n ∷ y ∷ z ∷ []) } ⌝ }
+    {
+        let mut r = self;
+        let at = station * 3;
+        r.capacities[at] = n;
+        r.capacities[at + 1] = y;
+        r.capacities[at + 2] = z;
+        r
+    }
+
+    // Tag 01.
+    pub fn restart(self, effects: &mut [i16; 1536], method: u8, live: u8, zone: u8) -> AnsweredRest
+        requires { ⌜ InRange (whole self (now effects)) ⌝ }
+        ensures { λ r. ⌜ wholeOf r (now (effects .exit)) ≡ edited (tried (dueSettings method live zone) (whole self (now (effects .entry))) (fresh (record { method = method; live = live; zone = zone }))) ⌝ }
+    {
+        let due = due_settings(method, live, zone);
+        if due == 0 {
+            clear_all(effects);
+            let settings = Settings { method, live, zone };
+            let rest = Rest {
+                settings,
+                kinds: [0u8; 32],
+                capacities: [0u16; 48],
+            };
+            return AnsweredRest {
+                answer: Answer::Accepted,
+                rest,
+            };
+        }
+        AnsweredRest {
+            answer: Answer::Refused(due),
+            rest: self,
+        }
+    }
+
+    // Tag 02.
+    pub fn fill(self, effects: &mut [i16; 1536], case: u8, kind: u8) -> AnsweredRest
+        ensures { λ r. ⌜ wholeOf r (now (effects .exit)) ≡ edited (tried (dueFill (whole self (now (effects .entry))) case kind) (whole self (now (effects .entry))) (withKind (whole self (now (effects .entry))) case kind)) ⌝ }
+    {
+        let k = case as usize;
+        let held = wire::byte(&self.kinds, k);
+        let due = due_fill(case, kind, held);
+        if due == 0 {
+            let rest = self.with_kind(k, kind);
+            clear_case(effects, k);
+            return AnsweredRest {
+                answer: Answer::Accepted,
+                rest,
+            };
+        }
+        AnsweredRest {
+            answer: Answer::Refused(due),
+            rest: self,
+        }
+    }
+
+    // Tag 03.
+    pub fn replace_effects(
+        self,
+        effects: &mut [i16; 1536],
+        case: u8,
+        station: u8,
+        n: u16,
+        y: u16,
+        z: u16,
+    ) -> AnsweredRest
+        ensures { λ r. ⌜ wholeOf r (now (effects .exit)) ≡ edited (tried (dueEffects (whole self (now (effects .entry))) case station n y z) (whole self (now (effects .entry))) (withEffects (whole self (now (effects .entry))) case station (signed16 n) (signed16 y) (signed16 z))) ⌝ }
+    {
+        let k = case as usize;
+        let held = wire::byte(&self.kinds, k);
+        let due = due_effects(case, station, n, y, z, held);
+        if due == 0 {
+            let t = station as usize;
+            let at = t * 96 + k * 3;
+            put_effects(
+                effects,
+                at,
+                wire::signed(n),
+                wire::signed(y),
+                wire::signed(z),
+            );
+            return AnsweredRest {
+                answer: Answer::Accepted,
+                rest: self,
+            };
+        }
+        AnsweredRest {
+            answer: Answer::Refused(due),
+            rest: self,
+        }
+    }
+
+    // Tag 04.
+    pub fn empty(self, effects: &mut [i16; 1536], case: u8) -> AnsweredRest
+        ensures { λ r. ⌜ wholeOf r (now (effects .exit)) ≡ edited (tried (dueEmpty (whole self (now (effects .entry))) case) (whole self (now (effects .entry))) (withKind (whole self (now (effects .entry))) case 0)) ⌝ }
+    {
+        let k = case as usize;
+        let held = wire::byte(&self.kinds, k);
+        let due = due_empty(case, held);
+        if due == 0 {
+            let rest = self.with_kind(k, 0);
+            clear_case(effects, k);
+            return AnsweredRest {
+                answer: Answer::Accepted,
+                rest,
+            };
+        }
+        AnsweredRest {
+            answer: Answer::Refused(due),
+            rest: self,
+        }
+    }
+
+    // Tag 05.
+    pub fn replace_capacities(self, station: u8, n: u16, y: u16, z: u16) -> AnsweredRest
+        ensures { λ r. ⌜ ((effects : List ℤ) → wholeOf r effects ≡ edited (tried (dueCapacities station n y z) (whole self effects) (withCapacities (whole self effects) station n y z))) ⌝ }
+    {
+        let due = due_capacities(station, n, y, z);
+        if due == 0 {
+            let rest = self.with_capacities(station as usize, n, y, z);
+            return AnsweredRest {
+                answer: Answer::Accepted,
+                rest,
+            };
+        }
+        AnsweredRest {
+            answer: Answer::Refused(due),
+            rest: self,
+        }
+    }
+
+    // Tag 06.
+    pub fn look_extremes(self, effects: &[i16], station: u8, component: u8) -> Answer
+        requires { ⌜ InRange (whole self (now effects)) ⌝ }
+        ensures { λ r. ⌜ r ≡ unlessDue (dueExtremes station component) (Answer.Extremes (extremesAt (whole self (now (effects .entry))) station component)) ⌝ }
+    {
+        let due = due_extremes(station, component);
+        if due == 0 {
+            let kinds = self.kinds;
+            let t = station as usize;
+            let from = t * 96;
+            let to = from + 96;
+            let x = envelope::extremes_of(
+                self.settings,
+                &kinds,
+                &effects[from..to],
+                component as usize,
+            );
+            return Answer::Extremes(x);
+        }
+        Answer::Refused(due)
+    }
+
+    // Tag 07.
+    pub fn look_utilisation(self, effects: &[i16], station: u8) -> Answer
+        requires { ⌜ InRange (whole self (now effects)) ⌝ }
+        ensures { λ r. ⌜ r ≡ unlessDue (dueUtilisation (whole self (now (effects .entry))) station) (Answer.Utilisation (utilisationAt (whole self (now (effects .entry))) station)) ⌝ }
+    {
+        let kinds = self.kinds;
+        let capacities = self.capacities;
+        let t = station as usize;
+        let at = t * 3;
+        let n = number_at(&capacities, at);
+        let due = due_utilisation(station, n);
+        if due == 0 {
+            let from = t * 96;
+            let to = from + 96;
+            let p = Capacities {
+                n: capacities[at],
+                y: capacities[at + 1],
+                z: capacities[at + 2],
+            };
+            let x = envelope::utilisation_of(self.settings, &kinds, &effects[from..to], p);
+            return Answer::Utilisation(x);
+        }
+        Answer::Refused(due)
+    }
 }

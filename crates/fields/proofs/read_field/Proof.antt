@@ -1,99 +1,26 @@
--- `fields::read_field` meets its contract: refusals 14 and 3, and then the field's own answer.
+-- `fields::read_field` meets its contract, by that of the reading on the rest of the sheet.
 -- Assumes nothing.
-use Prim.Native.Nat.{_+_, _-_}
-use mathlib.Core.Path.{_≡_, refl, sym, _∙_}
-use native.Mathlib.Omega.{arith}
-use borrow.Author.Tests.{lt-ltb, le-ltb}
-use Rattle.wire.specs.Bytes.{over}
-use Rattle.fields.specs.Field.{readField, readHeader, answerBytes}
-use Rattle.fields.proofs.Laws.{header-fits}
-use Rattle.fields.proofs.Within.{read-on}
 use borrow.Author.Needs.{needs}
 use Rattle.fields.proofs.read_field.Statement.{statement}
 use Rattle.fields.proofs.read_field.Tie as tie
 
-returns : tie.Need-returns
-unfolding readField over answerBytes
-returns c = read-on (c .before .before .before .pre) (record { reading = rw (lt-ltb _ _ (c .if1 .taken)); output = refl })
+rest-requires : tie.Need-rest-requires
+rest-requires c κs = search needs
 
-header-of-requires : tie.Need-header-of-requires
-header-of-requires c κs = search needs
+read-in-requires : tie.Need-read-in-requires
+read-in-requires c κs = rw (c .before .before .rest .ensures) (c .before .before .before .before .before .before .pre)
 
-enum-known-h : tie.Need-enum-known-h
-enum-known-h c = search needs
-
-enum-told : tie.Need-enum-told
-enum-told c = search needs
-
-put-answer-requires : tie.Need-put-answer-requires
-put-answer-requires c κs = search needs
+with-effects-requires : tie.Need-with-effects-requires
+with-effects-requires c κs = search needs
 
 same-length : tie.Need-same-length
 same-length c = search needs
 
-returns-2 : tie.Need-returns-2
-unfolding readField readHeader
-returns-2 c =
-    let m = c .before .before .before .before .before .before in
-    let e = sym (m .header-of .ensures) ∙ c .before .before .before .before .enum-told .given .1 in
-    let p = c .before .before .put-answer .ensures in
-    read-on (m .before .before .before .before .pre) (record { reading = rw (le-ltb _ _ (m .before .if1 .left), e, p .0); output = p .1 })
-
-add-field : tie.Need-add-field
-add-field c = omega (arith, header-fits _ _ _ (c .before .before .before .header-of .ensures) (c .before .h .given .1))
-
-sub-field : tie.Need-sub-field
-sub-field c = search needs
-
-part-field-start : tie.Need-part-field-start
-part-field-start c = search needs
-
-part-field-end : tie.Need-part-field-end
-part-field-end c = header-fits _ _ _ (c .before .before .before .header-of .ensures) (c .before .h .given .1)
-
-field-requires : tie.Need-field-requires
-field-requires c κs = search needs
-
-put-answer-requires-2 : tie.Need-put-answer-requires-2
-put-answer-requires-2 c κs = search needs
-
-add-t13 : tie.Need-add-t13
-add-t13 c =
-    let h = c .before .before .before .before .before .before .before .before in
-    omega (arith, header-fits _ _ _ (h .before .before .header-of .ensures) (h .h .given .1))
-
-same-length-2 : tie.Need-same-length-2
-same-length-2 c = search needs
-
-returns-3 : tie.Need-returns-3
-unfolding readField readHeader
-returns-3 c =
-    let f = c .before .before .before .before .before in
-    let h = f .before .before .before in
-    let l = h .h .given .0 .1 .0 in
-    let g : 3 + l - 3 ≡ l = omega arith in
-    let e = sym (h .before .before .header-of .ensures) ∙ h .h .given .1 in
-    let p = c .before .before .before .put-answer2 .ensures in
-    read-on (h .before .before .before .before .before .before .pre)
-    (record { reading = rw (le-ltb _ _ (h .before .before .before .if1 .left), e, p .0, f .field .ensures, g); output = p .1 })
+returns : tie.Need-returns
+returns c =
+    let r = c .before .before .before .before in
+    rw (c .with-effects .ensures) (rw (r .before .before .before .rest .ensures) at (r .read-in .ensures))
 
 pub read-field-spec : {M : Type 1} → statement M
 read-field-spec =
-    tie.close
-    (tie.spec
-    returns
-    header-of-requires
-    enum-known-h
-    enum-told
-    put-answer-requires
-    same-length
-    returns-2
-    add-field
-    sub-field
-    part-field-start
-    part-field-end
-    field-requires
-    put-answer-requires-2
-    add-t13
-    same-length-2
-    returns-3)
+    tie.close (tie.spec rest-requires read-in-requires with-effects-requires same-length returns)

@@ -1,45 +1,51 @@
 -- One answer leaves the sheet in range, its places within the buffers, and the output as long as it was.
 -- Assumes nothing.
+use Prim.Native.Nat.{_-_}
+use native.Mathlib.Omega.{arith}
+use lib.ListN.{length, drop, length-take, length-drop}
 use borrow.Author.Needs.{needs}
 use Rattle.frames.proofs.answer.Statement.{statement}
 use Rattle.frames.proofs.answer.Tie as tie
 
-sub-read-field : tie.Need-sub-read-field
-sub-read-field c = search needs
+sub-read-in : tie.Need-sub-read-in
+sub-read-in c = search needs
 
-part-read-field-start : tie.Need-part-read-field-start
-part-read-field-start c = search needs
+part-read-in-start : tie.Need-part-read-in-start
+part-read-in-start c = search needs
 
-part-read-field-end : tie.Need-part-read-field-end
-part-read-field-end c = search needs
+part-read-in-end : tie.Need-part-read-in-end
+part-read-in-end c = search needs
 
-sub-read-field-2 : tie.Need-sub-read-field-2
-sub-read-field-2 c = search needs
+sub-read-in-2 : tie.Need-sub-read-in-2
+sub-read-in-2 c = search needs
 
-part-read-field-start-2 : tie.Need-part-read-field-start-2
-part-read-field-start-2 c = search needs
+part-read-in-start-2 : tie.Need-part-read-in-start-2
+part-read-in-start-2 c = search needs
 
-part-read-field-end-2 : tie.Need-part-read-field-end-2
-part-read-field-end-2 c = search needs
+part-read-in-end-2 : tie.Need-part-read-in-end-2
+part-read-in-end-2 c = search needs
 
-read-field-requires : tie.Need-read-field-requires
-read-field-requires c κs = search needs
+read-in-requires : tie.Need-read-in-requires
+read-in-requires c κs = search needs
 
 is-last-requires : tie.Need-is-last-requires
 is-last-requires c κs = search needs
 
-add-t12 : tie.Need-add-t12
-add-t12 c = search needs
+add-t14 : tie.Need-add-t14
+add-t14 c = search needs
 
-add-t16 : tie.Need-add-t16
-add-t16 c = search needs
+add-t18 : tie.Need-add-t18
+add-t18 c =
+    let f = c .before .before .before .before .before .before in
+    let a = f .before .before .before .before .before .before .before in
+    omega (arith, f .read-in .ensures .1 .written, length-take (length (a .args .output .now) - a .args .p .written) (drop (a .args .p .written) (a .args .output .now)), length-drop (a .args .p .written) (a .args .output .now), a .pre .written)
 
 same-length : tie.Need-same-length
 same-length c = search needs
 
 returns : tie.Need-returns
 returns c =
-    let r = c .before .before .before .before .before .before .read-field .ensures .1 in
+    let r = c .before .before .before .before .before .before .read-in .ensures .1 in
     record {
       in-range = r .in-range;
       consumed = search needs;
@@ -52,15 +58,15 @@ pub answer-spec : {M : Type 1} → statement M
 answer-spec =
     tie.close
     (tie.spec
-    sub-read-field
-    part-read-field-start
-    part-read-field-end
-    sub-read-field-2
-    part-read-field-start-2
-    part-read-field-end-2
-    read-field-requires
+    sub-read-in
+    part-read-in-start
+    part-read-in-end
+    sub-read-in-2
+    part-read-in-start-2
+    part-read-in-end-2
+    read-in-requires
     is-last-requires
-    add-t12
-    add-t16
+    add-t14
+    add-t18
     same-length
     returns)

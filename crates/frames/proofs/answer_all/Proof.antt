@@ -1,15 +1,16 @@
 -- Each step keeps the sheet in range and its places within the buffers.
 -- Assumes nothing.
-use borrow.Author.Needs.{needs}
+use Rattle.sheet.specs.Parts.{whole}
 use Rattle.frames.specs.Within.{Within}
+use borrow.Author.Needs.{needs}
 use Rattle.frames.proofs.answer_all.Statement.{statement}
 use Rattle.frames.proofs.answer_all.Tie as tie
 
 abbrev Inv-loop : tie.InvT-loop
-Inv-loop ended input output₀ p₀ left₀ output p left = Within (p .sheet) (p .consumed) (p .written) input output₀ output
+Inv-loop effects₀ ended input output₀ p₀ left₀ effects output p left = Within (whole (p .rest) effects) (p .consumed) (p .written) input output₀ output
 
 abbrev μ-loop : tie.MeasureT-loop
-μ-loop ended input output₀ p₀ left₀ output p left = left
+μ-loop effects₀ ended input output₀ p₀ left₀ effects output p left = left
 
 loop-holds : tie.Need-loop-holds Inv-loop μ-loop
 loop-holds c = search needs

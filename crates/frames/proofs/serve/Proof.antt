@@ -3,25 +3,24 @@
 use Prim.Native.Nat.{_≤_}
 use mathlib.Core.Path.{_≡_, refl}
 use lib.ListN.{length}
-use borrow.Author.Needs.{needs}
 use Rattle.sheet.specs.Edits.{dueSettings}
+use Rattle.sheet.specs.Sheet.{zeros, fresh}
+use Rattle.sheet.specs.Parts.{whole}
 use Rattle.sheet.specs.Range.{InRange}
 use Rattle.sheet.proofs.Kept.{fresh-in-range}
+use borrow.Author.Needs.{needs}
 use Rattle.frames.proofs.serve.Statement.{statement}
 use Rattle.frames.proofs.serve.Tie as tie
 
 abbrev Inv-loop : tie.InvT-loop
-Inv-loop input₀ output₀ s₀ left₀ input output s left = InRange (s .sheet) × (s .held ≤ length input) × (37 ≤ length output) × (length input ≡ length input₀) × (length output ≡ length output₀)
+Inv-loop input₀ output₀ effects₀ s₀ left₀ input output effects s left = InRange (whole (s .rest) effects) × (s .held ≤ length input) × (37 ≤ length output) × (length input ≡ length input₀) × (length output ≡ length output₀)
 
 abbrev μ-loop : tie.MeasureT-loop
-μ-loop input₀ output₀ s₀ left₀ input output s left = left
-
-fresh-requires : tie.Need-fresh-requires Inv-loop μ-loop
-fresh-requires c κs = search needs
+μ-loop input₀ output₀ effects₀ s₀ left₀ input output effects s left = left
 
 loop-holds : tie.Need-loop-holds Inv-loop μ-loop
-unfolding dueSettings
-loop-holds c = (rw (c .fresh .ensures) (fresh-in-range (record { method = 1; live = 0; zone = 0 }) refl), search needs, search needs, search needs, search needs)
+unfolding dueSettings fresh zeros
+loop-holds c = (fresh-in-range (record { method = 1; live = 0; zone = 0 }) refl, search needs, search needs, search needs, search needs)
 
 turn-requires : tie.Need-turn-requires Inv-loop μ-loop
 turn-requires c κs = search needs
@@ -50,7 +49,6 @@ serve-spec =
     (tie.spec
     Inv-loop
     μ-loop
-    fresh-requires
     loop-holds
     turn-requires
     remaining-requires

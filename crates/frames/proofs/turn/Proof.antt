@@ -1,5 +1,6 @@
 -- A turn keeps the sheet in range, the bytes held within the input, and both buffers as long as they were.
 -- Assumes nothing.
+use native.Mathlib.Omega.{arith}
 use borrow.Author.Needs.{needs}
 use Rattle.frames.proofs.turn.Statement.{statement}
 use Rattle.frames.proofs.turn.Tie as tie
@@ -34,8 +35,8 @@ write-all-requires c κs = search needs
 shift-requires : tie.Need-shift-requires
 shift-requires c κs = search needs
 
-sub-t17 : tie.Need-sub-t17
-sub-t17 c = search needs
+sub-t19 : tie.Need-sub-t19
+sub-t19 c = search needs
 
 same-length : tie.Need-same-length
 same-length c = search needs
@@ -46,7 +47,7 @@ same-length-2 c = search needs
 returns : tie.Need-returns
 returns c =
     let a = c .before .before .before .before .before .before .before .before .before .before .before .before .answer-all .ensures in
-    (a .in-range, search needs, search needs, search needs)
+    (a .in-range, omega (arith, c .before .before .before .before .before .before .before .before .before .before .before .before .before .before .before .before .before .before .before .before .read-some .ensures .0), search needs, search needs)
 
 pub turn-spec : {M : Type 1} → statement M
 turn-spec =
@@ -62,7 +63,7 @@ turn-spec =
     part-write-all-end
     write-all-requires
     shift-requires
-    sub-t17
+    sub-t19
     same-length
     same-length-2
     returns)

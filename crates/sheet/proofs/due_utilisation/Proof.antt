@@ -13,7 +13,7 @@ first-requires-2 c κs = search needs
 
 returns : tie.Need-returns
 unfolding dueUtilisationAt
-returns c = cc
+returns c = rw (c .first2 .ensures, c .before .first .ensures)
 
 pub due-utilisation-spec : {M : Type 1} → statement M
 due-utilisation-spec = tie.close (tie.spec first-requires first-requires-2 returns)

@@ -1,21 +1,21 @@
--- `sheet::Sheet::restart` meets its contract: the edit where no refusal is due, else the old sheet.
+-- `sheet::Sheet::restart` meets its contract, by that of the field on the rest.
 -- Assumes nothing.
-use Rattle.sheet.proofs.Refusals.{tried-none, tried-due}
+use mathlib.Core.Path.{_∙_}
 use borrow.Author.Needs.{needs}
 use Rattle.sheet.proofs.Sheet.restart.Statement.{statement}
 use Rattle.sheet.proofs.Sheet.restart.Tie as tie
 
-due-settings-requires : tie.Need-due-settings-requires
-due-settings-requires c κs = search needs
+rest-requires : tie.Need-rest-requires
+rest-requires c κs = search needs
 
-fresh-requires : tie.Need-fresh-requires
-fresh-requires c κs = search needs
+restart-requires : tie.Need-restart-requires
+restart-requires c κs = rw (c .before .rest .ensures) (c .before .before .before .pre)
+
+with-effects-requires : tie.Need-with-effects-requires
+with-effects-requires c κs = search needs
 
 returns : tie.Need-returns
-returns c = tried-none _ _ _ (cc) (cc)
-
-returns-2 : tie.Need-returns-2
-returns-2 c = tried-due _ _ _ (cc) (c .if1 .left)
+returns c = c .with-effects .ensures ∙ rw (c .before .before .before .rest .ensures) at (c .before .restart .ensures)
 
 pub restart-spec : {M : Type 1} → statement M
-restart-spec = tie.close (tie.spec due-settings-requires fresh-requires returns returns-2)
+restart-spec = tie.close (tie.spec rest-requires restart-requires with-effects-requires returns)

@@ -1,0 +1,214 @@
+//! States and lists of fields to measure on, the same in every run.
+
+use frames::{Answer, Capacities, Component, Effects, Field, Kind, Refusal, Settings, Sheet};
+
+/// A generator of numbers (xorshift) from a fixed seed.
+pub struct Random(u64);
+
+impl Random {
+    pub fn new(seed: u64) -> Random {
+        Random(seed.wrapping_mul(0x9E37_79B9_7F4A_7C15) | 1)
+    }
+
+    pub fn below(&mut self, n: u64) -> u64 {
+        self.0 ^= self.0 << 13;
+        self.0 ^= self.0 >> 7;
+        self.0 ^= self.0 << 17;
+        (self.0 >> 16) % n
+    }
+
+    fn effects(&mut self) -> Effects {
+        let mut one = || self.below(20_001) as i16 - 10_000;
+        Effects {
+            n: one(),
+            my: one(),
+            mz: one(),
+        }
+    }
+
+    fn capacities(&mut self) -> Capacities {
+        let mut one = || self.below(10_000) as u16 + 1;
+        Capacities {
+            n: one(),
+            my: one(),
+            mz: one(),
+        }
+    }
+}
+
+pub const KINDS: [Kind; 11] = [
+    Kind::Dead,
+    Kind::Live,
+    Kind::Wind,
+    Kind::Snow,
+    Kind::EarthPermanent,
+    Kind::RoofLive,
+    Kind::Earthquake,
+    Kind::EarthOther,
+    Kind::Fluid,
+    Kind::Rain,
+    Kind::Flood,
+];
+
+const COMPONENTS: [Component; 3] = [Component::N, Component::My, Component::Mz];
+
+/// A sheet with so many filled places, effects and capacities at so many stations.
+pub fn filled(places: u8, stations: u8) -> Sheet {
+    let mut random = Random::new(u64::from(places) * 16 + u64::from(stations));
+    let mut fields = Vec::new();
+    for case in 0..places {
+        let kind = kind_of(case);
+        fields.push(Field::AddCase { case, kind });
+        for station in 0..stations {
+            let effects = random.effects();
+            fields.push(Field::SetEffects {
+                case,
+                station,
+                effects,
+            });
+        }
+    }
+    for station in 0..stations {
+        let capacities = random.capacities();
+        fields.push(Field::SetCapacities {
+            station,
+            capacities,
+        });
+    }
+    let mut sheet = Sheet::new(Settings::default());
+    sheet.run(&fields);
+    sheet
+}
+
+fn kind_of(case: u8) -> Kind {
+    KINDS[usize::from(case) % KINDS.len()]
+}
+
+pub fn bytes(fields: &[Field]) -> Vec<u8> {
+    let mut bytes = Vec::new();
+    for field in fields {
+        field.encode(&mut bytes);
+    }
+    bytes
+}
+
+/// A quarter each of tags 02, 03, 04 and 05, all accepted on a sheet with so many filled places: a place is emptied and filled
+/// again.
+pub fn edits(count: usize, places: u8, seed: u64) -> Vec<Field> {
+    let mut random = Random::new(seed);
+    let mut fields = Vec::with_capacity(count);
+    while fields.len() < count {
+        let case = random.below(u64::from(places)) as u8;
+        let station = random.below(16) as u8;
+        fields.push(Field::DropCase { case });
+        fields.push(Field::AddCase {
+            case,
+            kind: kind_of(case),
+        });
+        fields.push(Field::SetEffects {
+            case,
+            station,
+            effects: random.effects(),
+        });
+        fields.push(Field::SetCapacities {
+            station,
+            capacities: random.capacities(),
+        });
+    }
+    fields.truncate(count);
+    fields
+}
+
+/// Tag 03 alone, all accepted.
+pub fn effects(count: usize, places: u8, stations: u8, seed: u64) -> Vec<Field> {
+    let mut random = Random::new(seed);
+    let one = |_| Field::SetEffects {
+        case: random.below(u64::from(places)) as u8,
+        station: random.below(u64::from(stations)) as u8,
+        effects: random.effects(),
+    };
+    (0..count).map(one).collect()
+}
+
+/// Tag 06 alone, at the stations below a number.
+pub fn extremes(count: usize, stations: u8, seed: u64) -> Vec<Field> {
+    let mut random = Random::new(seed);
+    let one = |_| Field::Extremes {
+        station: random.below(u64::from(stations)) as u8,
+        component: COMPONENTS[random.below(3) as usize],
+    };
+    (0..count).map(one).collect()
+}
+
+/// Tag 07 alone, at the stations below a number.
+pub fn utilisations(count: usize, stations: u8, seed: u64) -> Vec<Field> {
+    let mut random = Random::new(seed);
+    let one = |_| Field::Utilisation {
+        station: random.below(u64::from(stations)) as u8,
+    };
+    (0..count).map(one).collect()
+}
+
+/// Tags 06 and 07 in turn.
+pub fn looks(count: usize, seed: u64) -> Vec<Field> {
+    let pairs = extremes(count / 2, 16, seed).into_iter();
+    pairs
+        .zip(utilisations(count / 2, 16, seed + 1))
+        .flat_map(|(a, b)| [a, b])
+        .collect()
+}
+
+pub fn is_look(field: Field) -> bool {
+    matches!(field, Field::Extremes { .. } | Field::Utilisation { .. })
+}
+
+/// Eight edits and one look of each tag in ten fields.
+pub fn mixed(count: usize, places: u8, seed: u64) -> Vec<Field> {
+    let edits = edits(count, places, seed);
+    let extremes = extremes(count, 16, seed + 1);
+    let utilisations = utilisations(count, 16, seed + 2);
+    let one = |i: usize| match i % 10 {
+        4 => extremes[i],
+        9 => utilisations[i],
+        _ => edits[i - (i + 1) / 5],
+    };
+    (0..count).map(one).collect()
+}
+
+/// Fields of every tag with values in and out of range, wrong lengths and unknown tags, so that every refusal occurs.
+pub fn with_refusals(count: usize, seed: u64) -> Vec<u8> {
+    let mut random = Random::new(seed);
+    let lengths = [1, 3, 2, 8, 1, 7, 2, 1, 0];
+    let mut bytes = Vec::new();
+    for _ in 0..count {
+        let tag = random.below(9) as u8;
+        let off = usize::from(random.below(20) == 0);
+        let len = lengths[usize::from(tag)] + off;
+        bytes.extend_from_slice(&[tag, 0, len as u8]);
+        for at in 0..len {
+            let byte = match (tag, at) {
+                (1, _) => random.below(4),
+                (3, 0) | (2 | 4, 0) => random.below(34),
+                (3, 1) | (5..=7, 0) => random.below(17),
+                (2, 1) => random.below(13),
+                (6, 1) => random.below(4),
+                (3, _) if at % 2 == 0 => [0, 5, 0xFA, 0x27, 0x40][random.below(5) as usize],
+                (5, _) if at % 2 == 1 => [0, 5, 0x27][random.below(3) as usize],
+                _ => random.below(256),
+            };
+            bytes.push(byte as u8);
+        }
+    }
+    bytes
+}
+
+/// The numbers of the refusals among answers.
+pub fn refusals(mut answers: &[u8]) -> impl Iterator<Item = u8> + '_ {
+    std::iter::from_fn(move || {
+        let (answer, rest) = Answer::decode(answers)?;
+        answers = rest;
+        Some(answer)
+    })
+    .filter_map(|answer| answer.accepted().err())
+    .map(Refusal::number)
+}

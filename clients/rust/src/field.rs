@@ -1,0 +1,208 @@
+/// The method of the standard.
+#[derive(Clone, Copy, Debug, Default, PartialEq, Eq, Hash)]
+#[repr(u8)]
+pub enum Method {
+    /// Strength design, rows 1 to 12.
+    #[default]
+    Strength = 1,
+    /// Allowable stress design, rows 21 to 40.
+    Allowable = 2,
+}
+
+/// The factor on L in the strength combinations where the standard lets it be halved (its exception on L).
+#[derive(Clone, Copy, Debug, Default, PartialEq, Eq, Hash)]
+#[repr(u8)]
+pub enum LiveOption {
+    /// 1.0.
+    #[default]
+    Full = 0,
+    /// 0.5.
+    Half = 1,
+}
+
+/// The flood zone, which opens further combinations.
+#[derive(Clone, Copy, Debug, Default, PartialEq, Eq, Hash)]
+#[repr(u8)]
+pub enum Zone {
+    /// Not in a flood zone.
+    #[default]
+    NoFlood = 0,
+    /// V zone or Coastal A zone.
+    Coastal = 1,
+    /// Noncoastal A zone.
+    Noncoastal = 2,
+}
+
+/// What a sheet sets for all its combinations. The default is that of a fresh sheet.
+#[derive(Clone, Copy, Debug, Default, PartialEq, Eq, Hash)]
+pub struct Settings {
+    /// Strength or allowable stress.
+    pub method: Method,
+    /// The factor on L.
+    pub live: LiveOption,
+    /// The flood zone.
+    pub zone: Zone,
+}
+
+/// The kind of load of a case.
+#[derive(Clone, Copy, Debug, PartialEq, Eq, Hash)]
+#[repr(u8)]
+pub enum Kind {
+    /// D, dead load.
+    Dead = 1,
+    /// F, fluid.
+    Fluid = 2,
+    /// H that is permanent: each case takes the full or the low factor, whichever governs.
+    EarthPermanent = 3,
+    /// H that is not permanent: each case acts or does not.
+    EarthOther = 4,
+    /// L, live load: each case acts or does not.
+    Live = 5,
+    /// Lr, roof live load: at most one case among Lr, S and R acts.
+    RoofLive = 6,
+    /// S, snow: at most one case among Lr, S and R acts.
+    Snow = 7,
+    /// R, rain: at most one case among Lr, S and R acts.
+    Rain = 8,
+    /// W, wind: at most one case acts.
+    Wind = 9,
+    /// E, earthquake: at most one case acts.
+    Earthquake = 10,
+    /// Fa, flood: at most one case acts.
+    Flood = 11,
+}
+
+/// A component of the effects at a station.
+#[derive(Clone, Copy, Debug, PartialEq, Eq, Hash)]
+#[repr(u8)]
+pub enum Component {
+    /// Axial force.
+    N = 0,
+    /// Moment about y.
+    My = 1,
+    /// Moment about z.
+    Mz = 2,
+}
+
+/// The effects of a case at a station: N in tenths of a kN, moments in tenths of a kN m.
+#[derive(Clone, Copy, Debug, Default, PartialEq, Eq, Hash)]
+pub struct Effects {
+    /// Axial force.
+    pub n: i16,
+    /// Moment about y.
+    pub my: i16,
+    /// Moment about z.
+    pub mz: i16,
+}
+
+/// The capacities of a station, in the units of the effects.
+#[derive(Clone, Copy, Debug, PartialEq, Eq, Hash)]
+pub struct Capacities {
+    /// Axial force.
+    pub n: u16,
+    /// Moment about y.
+    pub my: u16,
+    /// Moment about z.
+    pub mz: u16,
+}
+
+/// One field: an edit of the sheet or a question about it.
+#[derive(Clone, Copy, Debug, PartialEq, Eq, Hash)]
+pub enum Field {
+    /// Starts a fresh sheet.
+    Start(Settings),
+    /// Fills an empty place; the effects of the case are 0.
+    AddCase {
+        /// The place, 0 to 31.
+        case: u8,
+        /// The kind of load.
+        kind: Kind,
+    },
+    /// Replaces the effects of a case at a station.
+    SetEffects {
+        /// The place, 0 to 31.
+        case: u8,
+        /// The station, 0 to 15.
+        station: u8,
+        /// Each from -10,000 to 10,000.
+        effects: Effects,
+    },
+    /// Empties a place, effects included.
+    DropCase {
+        /// The place, 0 to 31.
+        case: u8,
+    },
+    /// Replaces the capacities of a station.
+    SetCapacities {
+        /// The station, 0 to 15.
+        station: u8,
+        /// Each from 1 to 10,000.
+        capacities: Capacities,
+    },
+    /// Asks for the maximum and the minimum of a component.
+    Extremes {
+        /// The station, 0 to 15.
+        station: u8,
+        /// The component.
+        component: Component,
+    },
+    /// Asks for the utilisation.
+    Utilisation {
+        /// The station, 0 to 15; it must have capacities.
+        station: u8,
+    },
+}
+
+impl Field {
+    /// The field as bytes, put after those that `out` holds.
+    pub fn encode(&self, out: &mut Vec<u8>) {
+        out.extend_from_slice(self.encoded().as_bytes());
+    }
+
+    pub(crate) fn encoded(&self) -> Encoded {
+        match *self {
+            Field::Start(s) => Encoded::new(1, &[s.method as u8, s.live as u8, s.zone as u8]),
+            Field::AddCase { case, kind } => Encoded::new(2, &[case, kind as u8]),
+            Field::SetEffects {
+                case,
+                station,
+                effects: Effects { n, my, mz },
+            } => {
+                let [n, my, mz] = [n, my, mz].map(i16::to_be_bytes);
+                let body = [case, station, n[0], n[1], my[0], my[1], mz[0], mz[1]];
+                Encoded::new(3, &body)
+            }
+            Field::DropCase { case } => Encoded::new(4, &[case]),
+            Field::SetCapacities {
+                station,
+                capacities: Capacities { n, my, mz },
+            } => {
+                let [n, my, mz] = [n, my, mz].map(u16::to_be_bytes);
+                Encoded::new(5, &[station, n[0], n[1], my[0], my[1], mz[0], mz[1]])
+            }
+            Field::Extremes { station, component } => Encoded::new(6, &[station, component as u8]),
+            Field::Utilisation { station } => Encoded::new(7, &[station]),
+        }
+    }
+}
+
+/// A field as bytes, without an allocation.
+pub(crate) struct Encoded {
+    bytes: [u8; 11],
+    len: usize,
+}
+
+impl Encoded {
+    fn new(tag: u8, body: &[u8]) -> Encoded {
+        let mut bytes = [0; 11];
+        let len = 3 + body.len();
+        bytes[0] = tag;
+        bytes[2] = body.len() as u8;
+        bytes[3..len].copy_from_slice(body);
+        Encoded { bytes, len }
+    }
+
+    pub(crate) fn as_bytes(&self) -> &[u8] {
+        &self.bytes[..self.len]
+    }
+}

@@ -1,0 +1,186 @@
+use std::fmt;
+
+use crate::bytes::{self, ANSWER, SAVED};
+use crate::{
+    Answer, Capacities, Component, Effects, Extremes, Field, Kind, Refusal, Settings, Utilisation,
+};
+
+/// A sheet: the settings, up to 32 load cases with their effects at up to 16 stations, and the capacities of the stations.
+///
+/// It is kept as its saved bytes, and the library does every operation: each call loads the sheet, and an edit saves it again.
+/// [`Sheet::run`] does a list of them for one load and one save.
+#[derive(Clone)]
+pub struct Sheet {
+    saved: Box<[u8; SAVED]>,
+    len: usize,
+    /// What the next edit saves into; then the two change places.
+    spare: Box<[u8; SAVED]>,
+}
+
+impl Sheet {
+    /// A fresh sheet: no cases, no capacities.
+    pub fn new(settings: Settings) -> Sheet {
+        let field = Field::Start(settings).encoded();
+        Sheet::load(field.as_bytes()).expect("every setting of the types is one of the library's")
+    }
+
+    /// Restores a saved sheet: a list of fields that are read on a fresh sheet, each of which must be accepted.
+    ///
+    /// # Errors
+    ///
+    /// The first refusal; a question among the fields is refused as an unknown tag.
+    pub fn load(saved: &[u8]) -> Result<Sheet, Refusal> {
+        let mut sheet = Sheet {
+            saved: Box::new([0; SAVED]),
+            len: 0,
+            spare: Box::new([0; SAVED]),
+        };
+        let written = bytes::run(saved, &[], &mut [], &mut *sheet.saved)?;
+        sheet.len = written.saved;
+        Ok(sheet)
+    }
+
+    /// The sheet as bytes, at most 5,958. Equal sheets have equal bytes.
+    pub fn save(&self) -> &[u8] {
+        &self.saved[..self.len]
+    }
+
+    /// Puts a case in an empty place; its effects are 0.
+    ///
+    /// # Errors
+    ///
+    /// [`Refusal::CaseOutside`], [`Refusal::PlaceTaken`].
+    pub fn add_case(&mut self, case: u8, kind: Kind) -> Result<(), Refusal> {
+        self.edit(Field::AddCase { case, kind })
+    }
+
+    /// Empties a place, effects included.
+    ///
+    /// # Errors
+    ///
+    /// [`Refusal::CaseOutside`], [`Refusal::PlaceEmpty`].
+    pub fn drop_case(&mut self, case: u8) -> Result<(), Refusal> {
+        self.edit(Field::DropCase { case })
+    }
+
+    /// Replaces the effects of a case at a station.
+    ///
+    /// # Errors
+    ///
+    /// [`Refusal::CaseOutside`], [`Refusal::StationOutside`], [`Refusal::EffectOutside`], [`Refusal::PlaceEmpty`].
+    pub fn set_effects(&mut self, case: u8, station: u8, effects: Effects) -> Result<(), Refusal> {
+        self.edit(Field::SetEffects {
+            case,
+            station,
+            effects,
+        })
+    }
+
+    /// Replaces the capacities of a station.
+    ///
+    /// # Errors
+    ///
+    /// [`Refusal::StationOutside`], [`Refusal::CapacityOutside`].
+    pub fn set_capacities(&mut self, station: u8, capacities: Capacities) -> Result<(), Refusal> {
+        self.edit(Field::SetCapacities {
+            station,
+            capacities,
+        })
+    }
+
+    /// The greatest and the least factored effect of a component at a station, over every admissible combination.
+    ///
+    /// # Errors
+    ///
+    /// [`Refusal::StationOutside`].
+    pub fn extremes(&self, station: u8, component: Component) -> Result<Extremes, Refusal> {
+        match self.look(Field::Extremes { station, component })? {
+            Answer::Extremes(extremes) => Ok(extremes),
+            answer => unexpected(answer),
+        }
+    }
+
+    /// The greatest utilisation of a station, over every admissible combination.
+    ///
+    /// # Errors
+    ///
+    /// [`Refusal::StationOutside`], [`Refusal::NoCapacity`].
+    pub fn utilisation(&self, station: u8) -> Result<Utilisation, Refusal> {
+        match self.look(Field::Utilisation { station })? {
+            Answer::Utilisation(utilisation) => Ok(utilisation),
+            answer => unexpected(answer),
+        }
+    }
+
+    /// Reads a list of fields, one after the other, and gives the answer to each. A field that is refused changes nothing, and
+    /// the next is read.
+    pub fn run(&mut self, fields: &[Field]) -> Vec<Answer> {
+        let mut input = Vec::new();
+        for field in fields {
+            field.encode(&mut input);
+        }
+        let mut output = vec![0; ANSWER * fields.len()];
+        let mut rest = self.read(&input, &mut output);
+        let mut answers = Vec::with_capacity(fields.len());
+        while !rest.is_empty() {
+            let (answer, after) = decoded(rest);
+            answers.push(answer);
+            rest = after;
+        }
+        answers
+    }
+
+    fn edit(&mut self, field: Field) -> Result<(), Refusal> {
+        let mut output = [0; ANSWER];
+        let answers = self.read(field.encoded().as_bytes(), &mut output);
+        decoded(answers).0.accepted().map(|_| ())
+    }
+
+    fn look(&self, field: Field) -> Result<Answer, Refusal> {
+        let mut output = [0; ANSWER];
+        let written = bytes::answer(self.save(), field.encoded().as_bytes(), &mut output);
+        let written = written.expect(KEPT);
+        decoded(&output[..written]).0.accepted()
+    }
+
+    /// Reads the fields and gives the bytes of their answers. The output has room for them.
+    fn read<'a>(&mut self, input: &[u8], output: &'a mut [u8]) -> &'a [u8] {
+        let state = &self.saved[..self.len];
+        let written = bytes::run(state, input, output, &mut *self.spare).expect(KEPT);
+        std::mem::swap(&mut self.saved, &mut self.spare);
+        self.len = written.saved;
+        &output[..written.answers]
+    }
+}
+
+/// Why a call on a sheet's own bytes is not refused as a whole.
+const KEPT: &str = "the library accepts what it saved, and the output has room";
+
+fn decoded(bytes: &[u8]) -> (Answer, &[u8]) {
+    Answer::decode(bytes).expect("the library writes whole answers")
+}
+
+fn unexpected(answer: Answer) -> ! {
+    panic!("the library answers a question as it was asked, not {answer:?}")
+}
+
+impl Default for Sheet {
+    /// Strength, full live load, no flood.
+    fn default() -> Sheet {
+        Sheet::new(Settings::default())
+    }
+}
+
+impl PartialEq for Sheet {
+    fn eq(&self, other: &Sheet) -> bool {
+        self.save() == other.save()
+    }
+}
+
+impl Eq for Sheet {}
+
+impl fmt::Debug for Sheet {
+    fn fmt(&self, f: &mut fmt::Formatter<'_>) -> fmt::Result {
+        f.debug_tuple("Sheet").field(&self.save()).finish()
+    }
+}

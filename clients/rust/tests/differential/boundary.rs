@@ -1,0 +1,293 @@
+//! Checks of the library's functions: answers, saved states, chains, refusals of a whole call.
+
+use frames::raw::{frames_answer, frames_count, frames_run, Ran};
+
+use crate::compare;
+use crate::lists::field;
+use crate::random::Random;
+use crate::reference::{self, fields, Sheet, LONGEST_ANSWER, LONGEST_SAVED};
+use crate::shrink::hexadecimal;
+
+type Check = Result<(), String>;
+
+/// What a call returned, and the buffers after it.
+struct Called {
+    refusal: u8,
+    written: usize,
+    saved: usize,
+    output: Vec<u8>,
+    saved_to: Vec<u8>,
+}
+
+/// What a buffer holds before a call: no byte value is frequent, so that a write shows.
+fn untouched(length: usize) -> Vec<u8> {
+    (0..length)
+        .map(|at| (at * 151 + at / 256 + 90) as u8)
+        .collect()
+}
+
+fn call_run(state: &[u8], input: &[u8], output_length: usize, saved_length: usize) -> Called {
+    let mut output = untouched(output_length);
+    let mut saved_to = untouched(saved_length);
+    // Each pointer and length is that of a slice; the two written ones are buffers of their own.
+    let ran = unsafe {
+        frames_run(
+            state.as_ptr(),
+            state.len(),
+            input.as_ptr(),
+            input.len(),
+            output.as_mut_ptr(),
+            output.len(),
+            saved_to.as_mut_ptr(),
+            saved_to.len(),
+        )
+    };
+    called(ran, output, saved_to)
+}
+
+fn call_answer(state: &[u8], input: &[u8], output_length: usize) -> Called {
+    let mut output = untouched(output_length);
+    // Each pointer and length is that of a slice; the written one is a buffer of its own.
+    let ran = unsafe {
+        frames_answer(
+            state.as_ptr(),
+            state.len(),
+            input.as_ptr(),
+            input.len(),
+            output.as_mut_ptr(),
+            output.len(),
+        )
+    };
+    called(ran, output, Vec::new())
+}
+
+fn called(ran: Ran, output: Vec<u8>, saved_to: Vec<u8>) -> Called {
+    Called {
+        refusal: ran.refusal,
+        written: ran.written,
+        saved: ran.saved,
+        output,
+        saved_to,
+    }
+}
+
+/// The least output length with which a run of the input is not refused.
+fn output_length(input: &[u8]) -> usize {
+    LONGEST_ANSWER * fields(input).len()
+}
+
+fn require(holds: bool, reason: impl FnOnce() -> String) -> Check {
+    if holds {
+        Ok(())
+    } else {
+        Err(reason())
+    }
+}
+
+/// The bytes of a buffer after the first `used` must be as they were before the call.
+fn require_untouched(what: &str, buffer: &[u8], used: usize) -> Check {
+    require(used <= buffer.len(), || {
+        format!("{what}: {used} bytes stated of {}", buffer.len())
+    })?;
+    require(buffer[used..] == untouched(buffer.len())[used..], || {
+        format!("{what}: a byte after the first {used} was written")
+    })
+}
+
+/// Compares a call that must not be refused; `start` is the sheet it starts from.
+fn require_answers(called: &Called, start: &Sheet, input: &[u8], saves: bool) -> Check {
+    require(called.refusal == 0, || {
+        format!("the call was refused with {}", called.refusal)
+    })?;
+    require_untouched("output", &called.output, called.written)?;
+    require_untouched("saved", &called.saved_to, called.saved)?;
+    let mut sheet = start.clone();
+    compare::list(&mut sheet, input, &called.output[..called.written])?;
+    let expected = if saves {
+        reference::save(&sheet)
+    } else {
+        Vec::new()
+    };
+    require(called.saved_to[..called.saved] == expected, || {
+        "the saved sheet is different".into()
+    })
+}
+
+/// Compares a call that must be refused with `number`.
+fn require_refused(called: &Called, number: u8) -> Check {
+    let got = (called.refusal, called.written, called.saved);
+    require(got == (number, 0, 0), || {
+        format!("the call returned {got:?}, not ({number}, 0, 0)")
+    })?;
+    require_untouched("output", &called.output, 0)?;
+    require_untouched("saved", &called.saved_to, 0)
+}
+
+/// Compares `frames_run` with the reference, whatever is due.
+fn check_run(state: &[u8], input: &[u8], output_length: usize, saved_length: usize) -> Check {
+    let called = call_run(state, input, output_length, saved_length);
+    match reference::start(state, input, output_length, saved_length) {
+        Ok(start) => require_answers(&called, &start, input, true),
+        Err(number) => require_refused(&called, number),
+    }
+    .map_err(|reason| {
+        let lengths = format!("output {output_length}, saved {saved_length}");
+        format!("frames_run, {lengths}, {}: {reason}", shown(state))
+    })
+}
+
+/// Compares `frames_answer` with the reference, whatever is due.
+fn check_answer(state: &[u8], input: &[u8], output_length: usize) -> Check {
+    let called = call_answer(state, input, output_length);
+    match reference::start(state, input, output_length, LONGEST_SAVED) {
+        Ok(start) => require_answers(&called, &start, input, false),
+        Err(number) => require_refused(&called, number),
+    }
+    .map_err(|reason| {
+        let lengths = format!("output {output_length}");
+        format!("frames_answer, {lengths}, {}: {reason}", shown(state))
+    })
+}
+
+fn shown(state: &[u8]) -> String {
+    match state {
+        [] => "state empty".into(),
+        _ => format!("state {}", hexadecimal(state)),
+    }
+}
+
+/// The answers of the library to a list on a fresh sheet, for a report.
+pub fn answers(input: &[u8]) -> Vec<u8> {
+    let mut called = call_run(&[], input, output_length(input), LONGEST_SAVED);
+    called.output.truncate(called.written);
+    called.output
+}
+
+/// A list on a fresh sheet, with room left in both buffers.
+pub fn check_list(input: &[u8]) -> Check {
+    check_run(&[], input, output_length(input) + 50, LONGEST_SAVED + 20)
+}
+
+/// `frames_answer` gives what `frames_run` gives, and `frames_count` the number of answers.
+pub fn check_answer_and_count(input: &[u8]) -> Check {
+    let length = output_length(input) + 50;
+    let run = call_run(&[], input, length, LONGEST_SAVED);
+    let answer = call_answer(&[], input, length);
+    require((answer.refusal, answer.saved) == (0, 0), || {
+        format!(
+            "frames_answer: {} and {} saved",
+            answer.refusal, answer.saved
+        )
+    })?;
+    require(
+        run.written == answer.written && run.output == answer.output,
+        || "frames_answer and frames_run write different bytes".into(),
+    )?;
+    // The pointer and length are those of a slice.
+    let count = unsafe { frames_count(input.as_ptr(), input.len()) };
+    require(count == fields(input).len(), || {
+        format!("frames_count: {count}, not {}", fields(input).len())
+    })
+}
+
+/// The list in pieces, each from the saved state of the one before, gives what one run gives.
+pub fn check_chain(input: &[u8], seed: u64) -> Check {
+    let mut random = Random::new(seed);
+    let fields = fields(input);
+    let mut cuts: Vec<usize> = (0..random.between(1, 6))
+        .map(|_| random.below(fields.len() as u64 + 1) as usize)
+        .collect();
+    cuts.push(fields.len());
+    cuts.sort_unstable();
+    let (mut state, mut answers, mut from) = (Vec::new(), Vec::<u8>::new(), 0);
+    for cut in cuts {
+        let piece = fields[from..cut].concat();
+        let called = call_run(&state, &piece, output_length(&piece), LONGEST_SAVED);
+        require(called.refusal == 0, || {
+            format!("a piece of a chain was refused with {}", called.refusal)
+        })?;
+        require_untouched("output", &called.output, called.written)?;
+        require_untouched("saved", &called.saved_to, called.saved)?;
+        answers.extend(&called.output[..called.written]);
+        state = called.saved_to[..called.saved].to_vec();
+        from = cut;
+    }
+    let whole = call_run(&[], input, output_length(input), LONGEST_SAVED);
+    require(answers == whole.output[..whole.written], || {
+        "a chain of runs answers differently from one run".into()
+    })?;
+    require(state == whole.saved_to[..whole.saved], || {
+        "a chain of runs ends in a different state from one run".into()
+    })
+}
+
+/// Good states that the list makes: the saved sheet, and the list's accepted edits.
+fn good_states(list: &[u8]) -> [Vec<u8>; 2] {
+    let mut sheet = Sheet::fresh();
+    let mut edits = Vec::new();
+    reference::read_list(&mut sheet, list, |_, field, answer| {
+        if matches!(answer, reference::Answer::Accepted) {
+            edits.extend(field);
+        }
+    });
+    [reference::save(&sheet), edits]
+}
+
+/// A state that may be refused: a good one that is cut, or has one more field.
+fn doubtful_state(list: &[u8], random: &mut Random) -> Vec<u8> {
+    let [mut state, _] = good_states(list);
+    let fields = fields(list);
+    match random.below(6) {
+        0 => state.extend(field(6, &[random.below(18) as u8, random.below(4) as u8])),
+        1 => state.extend(field(7, &[random.below(18) as u8])),
+        2 => state.truncate(random.below(state.len() as u64) as usize),
+        3 => state.extend(field(random.between(0, 9) as u8, &[40, 40][..])),
+        4 => state.extend([random.below(9) as u8, 0xFF, 0xFF, 1]),
+        _ if !fields.is_empty() => state.extend(random.pick(&fields)),
+        _ => state.push(1),
+    }
+    if random.chance(30) {
+        state.extend(field(0x7F, &[]));
+    }
+    state
+}
+
+/// Runs from good and bad states; returns how many of the states were refused.
+pub fn check_states(list: &[u8], seed: u64) -> Result<u64, String> {
+    let mut random = Random::new(seed);
+    let start = random.below(fields(list).len() as u64 + 1) as usize;
+    let input = fields(list)[start..].concat();
+    let (output, saved) = (output_length(&input) + 9, LONGEST_SAVED + 9);
+    for state in good_states(list) {
+        check_run(&state, &input, output, saved)?;
+        check_answer(&state, &input, output)?;
+    }
+    let mut refused = 0;
+    for state in [list.to_vec(), doubtful_state(list, &mut random)] {
+        check_run(&state, &input, output, saved)?;
+        check_answer(&state, &input, output)?;
+        refused += u64::from(reference::load(&state).is_err());
+    }
+    Ok(refused)
+}
+
+/// Buffers that are exactly long enough or too short, with a good and with a bad state; returns
+/// how many calls were refused with 14.
+pub fn check_buffers(list: &[u8], seed: u64) -> Result<u64, String> {
+    let mut random = Random::new(seed);
+    let exact = output_length(list);
+    let bad_state = doubtful_state(list, &mut random);
+    let mut refused = 0;
+    for state in [&[][..], &bad_state, &[0x7F, 0, 0]] {
+        let any = random.below(LONGEST_SAVED as u64) as usize;
+        for saved in [LONGEST_SAVED, LONGEST_SAVED - 1, any] {
+            for output in [exact, exact.saturating_sub(1)] {
+                check_run(state, list, output, saved)?;
+                check_answer(state, list, output)?;
+                let due = reference::start(state, list, output, saved).err() == Some(14);
+                refused += u64::from(due);
+            }
+        }
+    }
+    Ok(refused)
+}

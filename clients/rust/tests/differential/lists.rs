@@ -1,0 +1,386 @@
+//! Random lists of fields, of several sorts.
+
+use crate::random::Random;
+use crate::reference::{LONGEST_BODY, PLACES, STATIONS};
+
+#[derive(Clone, Copy, PartialEq)]
+pub enum Sort {
+    Valid,
+    Edge,
+    Full,
+    Ties,
+    OneKind,
+    Damaged,
+    Long,
+    Short,
+}
+
+impl Sort {
+    pub const ALL: [(Sort, &'static str); 8] = [
+        (Sort::Valid, "valid"),
+        (Sort::Edge, "edge values"),
+        (Sort::Full, "full 32 places"),
+        (Sort::Ties, "ties"),
+        (Sort::OneKind, "one kind"),
+        (Sort::Damaged, "damaged"),
+        (Sort::Long, "long"),
+        (Sort::Short, "short or empty"),
+    ];
+
+    /// The sort follows from the index, so that a short run has lists of every sort.
+    fn of(index: u64) -> Sort {
+        if index % 61 == 17 {
+            return Sort::Long;
+        }
+        match index % 10 {
+            0..=2 => Sort::Valid,
+            3 => Sort::Edge,
+            4 => Sort::Full,
+            5 => Sort::Ties,
+            6 => Sort::OneKind,
+            7 | 8 => Sort::Damaged,
+            _ => Sort::Short,
+        }
+    }
+}
+
+/// What the fields of one list are drawn from.
+struct Style {
+    kinds: Vec<u8>,
+    stations: Vec<u8>,
+    places: u64,
+    effects: Effects,
+    greatest_capacity: i64,
+    /// Percentage of fields whose values may lie at or outside their limits.
+    edge: u64,
+}
+
+enum Effects {
+    UpTo(i64),
+    Among(Vec<i64>),
+}
+
+/// The fields so far, and which places they leave filled.
+struct Builder<'a> {
+    random: &'a mut Random,
+    style: Style,
+    fields: Vec<Vec<u8>>,
+    filled: [bool; PLACES],
+}
+
+/// The list with this index, and its sort.
+pub fn list(random: &mut Random, index: u64) -> (Sort, Vec<u8>) {
+    let sort = Sort::of(index);
+    let steps = match sort {
+        Sort::Long => random.between(1_500, 4_000),
+        Sort::Short => random.between(0, 4),
+        _ => random.between(10, 150),
+    };
+    let style = style(random, sort);
+    let mut builder = Builder {
+        random,
+        style,
+        fields: Vec::new(),
+        filled: [false; PLACES],
+    };
+    if sort != Sort::Short || builder.random.chance(30) {
+        builder.settle();
+    }
+    for _ in 0..steps {
+        builder.step();
+    }
+    let fields = builder.fields;
+    let bytes = match sort {
+        Sort::Damaged => damaged(random, fields),
+        _ => fields.concat(),
+    };
+    (sort, bytes)
+}
+
+fn style(random: &mut Random, sort: Sort) -> Style {
+    let limit = random.pick(&[3, 20, 500, 10_000]);
+    let every_station: Vec<u8> = (0..STATIONS as u8).collect();
+    let some_stations = |random: &mut Random| {
+        let count = random.between(1, 3);
+        (0..count).map(|_| random.below(16) as u8).collect()
+    };
+    let mut style = Style {
+        kinds: (1..=11).collect(),
+        stations: some_stations(random),
+        places: random.pick(&[2, 4, 5, 6, 7, 8, 9, 10, 12, 16, 20, 26]),
+        effects: Effects::UpTo(limit),
+        greatest_capacity: random.pick(&[3, 20, 500, 10_000]),
+        edge: 2,
+    };
+    match sort {
+        Sort::Edge => style.edge = 50,
+        Sort::Full => {
+            style.places = PLACES as u64;
+            if random.chance(10) {
+                style.stations = every_station;
+            }
+        }
+        Sort::Ties => {
+            let one = random.between(1, limit);
+            style.effects = Effects::Among(random.pick(&[[one, one, one], [-one, 0, one]]).into());
+        }
+        Sort::OneKind => {
+            let count = random.pick(&[1, 1, 2, 3]);
+            style.kinds = (0..count).map(|_| random.between(1, 11) as u8).collect();
+        }
+        Sort::Short => style.places = random.below(4),
+        Sort::Valid | Sort::Damaged | Sort::Long => {}
+    }
+    style
+}
+
+impl Builder<'_> {
+    /// A sheet with filled places, effects other than 0 and capacities.
+    fn settle(&mut self) {
+        let [method, live_option, zone] = self.settings();
+        self.fresh(method, live_option, zone);
+        for _ in 0..self.style.places {
+            let Some(case) = self.place(false) else { break };
+            let kind = self.random.pick(&self.style.kinds);
+            self.fill(case, kind);
+            for station in self.style.stations.clone() {
+                let effects = [0; 3].map(|_| self.effect());
+                self.effects(case, station, effects);
+            }
+        }
+        for station in self.style.stations.clone() {
+            if self.random.chance(90) {
+                let capacities = [0; 3].map(|_| self.capacity());
+                self.capacities(station, capacities);
+            }
+        }
+    }
+
+    /// One more field, as a user of a settled sheet would send it.
+    fn step(&mut self) {
+        if self.random.chance(self.style.edge) {
+            return self.edge_field();
+        }
+        let station = self.station();
+        match self.random.below(400) {
+            0..=99 => {
+                let case = self.place(true).unwrap_or(0);
+                let effects = [0; 3].map(|_| self.effect());
+                self.effects(case, station, effects);
+            }
+            100..=129 => {
+                let case = self.place(false).unwrap_or(0);
+                let kind = self.random.pick(&self.style.kinds);
+                self.fill(case, kind);
+            }
+            130..=159 => {
+                let case = self.place(true).unwrap_or(0);
+                self.empty(case);
+            }
+            160..=183 => {
+                let capacities = [0; 3].map(|_| self.capacity());
+                self.capacities(station, capacities);
+            }
+            184..=291 => {
+                let component = self.random.below(3) as u8;
+                self.push(6, &[station, component]);
+            }
+            292..=398 => self.push(7, &[station]),
+            _ => self.settle(),
+        }
+    }
+
+    /// A field whose values lie within, at or outside their limits.
+    fn edge_field(&mut self) {
+        let case = self.near(31, &[0, 30, 31, 32, 255]);
+        let station = if self.random.chance(50) {
+            self.station()
+        } else {
+            self.near(15, &[0, 14, 15, 16, 255])
+        };
+        let kind = self.near(11, &[0, 1, 11, 12, 255]);
+        match self.random.below(16) {
+            0 => {
+                let method = self.near(2, &[0, 1, 2, 3, 255]);
+                let live_option = self.near(1, &[0, 1, 2, 255]);
+                let zone = self.near(2, &[0, 1, 2, 3, 255]);
+                self.fresh(method, live_option, zone);
+            }
+            1..=3 => self.fill(case, kind),
+            4..=7 => {
+                let effects = [0; 3].map(|_| self.edge_effect());
+                self.effects(case, station, effects);
+            }
+            8 => self.empty(case),
+            9..=11 => {
+                let capacities = [0; 3].map(|_| self.edge_capacity());
+                self.capacities(station, capacities);
+            }
+            12 | 13 => {
+                let component = self.near(2, &[0, 1, 2, 3, 255]);
+                self.push(6, &[station, component]);
+            }
+            _ => self.push(7, &[station]),
+        }
+    }
+
+    /// A value up to `limit`, or now and then one of the edge values.
+    fn near(&mut self, limit: u64, edge: &[u8]) -> u8 {
+        if self.random.chance(30) {
+            self.random.pick(edge)
+        } else {
+            self.random.below(limit + 1) as u8
+        }
+    }
+
+    fn edge_effect(&mut self) -> i64 {
+        const EDGE: [i64; 9] = [
+            10_000, -10_000, 9_999, -9_999, 10_001, -10_001, 32_767, -32_768, 0,
+        ];
+        match self.random.below(10) {
+            0..=4 => self.random.pick(&EDGE[..4]),
+            5 | 6 => self.random.pick(&EDGE),
+            _ => self.effect(),
+        }
+    }
+
+    fn edge_capacity(&mut self) -> i64 {
+        const EDGE: [i64; 7] = [1, 10_000, 9_999, 0, 10_001, 32_768, 65_535];
+        match self.random.below(10) {
+            0..=4 => self.random.pick(&EDGE[..3]),
+            5 => self.random.pick(&EDGE),
+            _ => self.capacity(),
+        }
+    }
+
+    fn settings(&mut self) -> [u8; 3] {
+        let method = self.random.between(1, 2) as u8;
+        let live_option = self.random.below(2) as u8;
+        let zone = self.random.below(3) as u8;
+        [method, live_option, zone]
+    }
+
+    fn station(&mut self) -> u8 {
+        self.random.pick(&self.style.stations)
+    }
+
+    fn effect(&mut self) -> i64 {
+        match &self.style.effects {
+            Effects::Among(values) => self.random.pick(values),
+            Effects::UpTo(limit) => match self.random.below(16) {
+                0 | 1 => 0,
+                2 => self.random.pick(&[10_000, -10_000]),
+                _ => self.random.between(-limit, *limit),
+            },
+        }
+    }
+
+    fn capacity(&mut self) -> i64 {
+        self.random.between(1, self.style.greatest_capacity)
+    }
+
+    /// A place that is filled, or one that is empty.
+    fn place(&mut self, filled: bool) -> Option<u8> {
+        let places: Vec<u8> = (0..PLACES as u8)
+            .filter(|place| self.filled[usize::from(*place)] == filled)
+            .collect();
+        (!places.is_empty()).then(|| self.random.pick(&places))
+    }
+
+    fn fresh(&mut self, method: u8, live_option: u8, zone: u8) {
+        if (1..=2).contains(&method) && live_option <= 1 && zone <= 2 {
+            self.filled = [false; PLACES];
+        }
+        self.push(1, &[method, live_option, zone]);
+    }
+
+    fn fill(&mut self, case: u8, kind: u8) {
+        if usize::from(case) < PLACES && (1..=11).contains(&kind) {
+            self.filled[usize::from(case)] = true;
+        }
+        self.push(2, &[case, kind]);
+    }
+
+    fn empty(&mut self, case: u8) {
+        if usize::from(case) < PLACES {
+            self.filled[usize::from(case)] = false;
+        }
+        self.push(4, &[case]);
+    }
+
+    fn effects(&mut self, case: u8, station: u8, effects: [i64; 3]) {
+        let mut body = vec![case, station];
+        body.extend(effects.iter().flat_map(|effect| two_bytes(*effect)));
+        self.push(3, &body);
+    }
+
+    fn capacities(&mut self, station: u8, capacities: [i64; 3]) {
+        let mut body = vec![station];
+        body.extend(capacities.iter().flat_map(|capacity| two_bytes(*capacity)));
+        self.push(5, &body);
+    }
+
+    fn push(&mut self, tag: u8, body: &[u8]) {
+        self.fields.push(field(tag, body));
+    }
+}
+
+/// The low two bytes, high byte first: the same for a signed and an unsigned number.
+fn two_bytes(number: i64) -> [u8; 2] {
+    (number as u16).to_be_bytes()
+}
+
+pub fn field(tag: u8, body: &[u8]) -> Vec<u8> {
+    let length = u16::try_from(body.len()).expect("the length fits in two bytes");
+    let mut field = vec![tag];
+    field.extend(length.to_be_bytes());
+    field.extend(body);
+    field
+}
+
+/// A field that the list of tags does not allow, or the header of one that is too long.
+fn damaged_field(random: &mut Random) -> Vec<u8> {
+    let unknown = random.pick(&[0x00, 0x08, 0x09, 0x7F, 0x80, 0x81, 0x86, 0x87, 0xFF]);
+    let known = random.between(1, 7) as u8;
+    let length = random.below(13) as usize;
+    let body: Vec<u8> = (0..length).map(|_| random.below(40) as u8).collect();
+    match random.below(100) {
+        0..=44 => field(unknown, &body),
+        45..=90 => field(known, &body),
+        91..=94 => {
+            let tag = random.pick(&[unknown, known]);
+            field(tag, &vec![random.below(256) as u8; LONGEST_BODY])
+        }
+        96 => field(
+            known,
+            &vec![7; LONGEST_BODY + random.between(1, 3) as usize],
+        ),
+        _ => {
+            let too_long = random.between(LONGEST_BODY as i64 + 1, 0xFFFF);
+            let header = [&[random.pick(&[unknown, known])][..], &two_bytes(too_long)];
+            [header.concat(), body].concat()
+        }
+    }
+}
+
+/// Puts damaged fields into a list, and cuts or changes its bytes.
+fn damaged(random: &mut Random, mut fields: Vec<Vec<u8>>) -> Vec<u8> {
+    for _ in 0..random.between(1, 6) {
+        let at = random.below(fields.len() as u64 + 1) as usize;
+        fields.insert(at, damaged_field(random));
+    }
+    let mut bytes = fields.concat();
+    match random.below(10) {
+        0..=2 => {
+            let last = bytes.len().min(20) as u64;
+            bytes.truncate(bytes.len() - random.below(last) as usize);
+        }
+        3 => bytes.truncate(random.below(bytes.len() as u64) as usize),
+        4 | 5 => {
+            let at = random.below(bytes.len() as u64) as usize;
+            bytes[at] = random.below(256) as u8;
+        }
+        _ => {}
+    }
+    bytes
+}

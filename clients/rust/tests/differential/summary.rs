@@ -1,0 +1,66 @@
+//! What a run has tested, and the table that is printed at its end.
+
+use std::time::Duration;
+
+use crate::lists::Sort;
+use crate::reference::Answer;
+
+#[derive(Default)]
+pub struct Summary {
+    pub fields_of_library: u64,
+    pub fields_of_program: u64,
+    pub processes: u64,
+    pub lists: [u64; Sort::ALL.len()],
+    pub examples: u64,
+    pub accepted: u64,
+    pub extremes: u64,
+    pub utilisations: u64,
+    pub enumerated: u64,
+    pub refusals: [u64; 15],
+    pub chains: u64,
+    pub refused_states: u64,
+    pub differences: u64,
+}
+
+impl Summary {
+    pub fn count(&mut self, answer: &Answer) {
+        match answer {
+            Answer::Accepted => self.accepted += 1,
+            Answer::Refused(number) => self.refusals[usize::from(*number)] += 1,
+            Answer::Extremes { .. } => self.extremes += 1,
+            Answer::Utilisation { .. } => self.utilisations += 1,
+        }
+    }
+
+    /// The refusal numbers that never occurred: a run that lacks one has tested too little.
+    pub fn missing_refusals(&self) -> Vec<usize> {
+        (1..=14)
+            .filter(|number| self.refusals[*number] == 0)
+            .collect()
+    }
+
+    pub fn print(&self, seed: u64, time: Duration) {
+        let line = |name: &str, value: u64| println!("{name:<36}{value:>12}");
+        println!();
+        line("fields through the library", self.fields_of_library);
+        line("fields through the program", self.fields_of_program);
+        line("processes of the program", self.processes);
+        line("lists", self.lists.iter().sum::<u64>() + self.examples);
+        line("  fixed examples", self.examples);
+        for ((_, name), count) in Sort::ALL.iter().zip(self.lists) {
+            line(&format!("  {name}"), count);
+        }
+        line("edits accepted", self.accepted);
+        line("extremes answered (06)", self.extremes);
+        line("utilisations answered (07)", self.utilisations);
+        line("  of both, also enumerated", self.enumerated);
+        for number in 1..=14 {
+            line(&format!("refusal {number}"), self.refusals[number]);
+        }
+        line("chains of saved states", self.chains);
+        line("states refused", self.refused_states);
+        line("seed", seed);
+        println!("{:<36}{:>12.1}", "seconds", time.as_secs_f64());
+        println!("{} differences", self.differences);
+    }
+}

@@ -1,0 +1,315 @@
+//! The worked frames P1 to P10 of document 01, every refusal, and saving.
+
+use frames::bytes::{answer, run, ANSWER, SAVED};
+use frames::{
+    Answer, Capacities, Component, Effects, Extremes, Field, Kind, LiveOption, Method, Refusal,
+    Settings, Sheet, Zone,
+};
+
+/// Cases from place 0 on, with effects on N at station 0.
+fn sheet(settings: Settings, cases: &[(Kind, i16)]) -> Sheet {
+    let mut sheet = Sheet::new(settings);
+    for (case, &(kind, n)) in (0..).zip(cases) {
+        sheet.add_case(case, kind).unwrap();
+        sheet.set_effects(case, 0, axial(n)).unwrap();
+    }
+    sheet
+}
+
+fn axial(n: i16) -> Effects {
+    Effects { n, my: 0, mz: 0 }
+}
+
+fn zone(zone: Zone) -> Settings {
+    Settings {
+        zone,
+        ..Settings::default()
+    }
+}
+
+fn extremes(settings: Settings, cases: &[(Kind, i16)]) -> Extremes {
+    sheet(settings, cases).extremes(0, Component::N).unwrap()
+}
+
+fn maximum(settings: Settings, cases: &[(Kind, i16)]) -> i64 {
+    extremes(settings, cases).maximum.value
+}
+
+const P2: [(Kind, i16); 4] = [
+    (Kind::Dead, 100),
+    (Kind::Live, 50),
+    (Kind::Wind, -200),
+    (Kind::Wind, 80),
+];
+
+#[test]
+fn p1_an_empty_sheet() {
+    let x = extremes(Settings::default(), &[]);
+    assert_eq!((x.maximum.value, x.minimum.value), (0, 0));
+    assert_eq!((x.maximum.acting, x.minimum.acting), (0, 0));
+}
+
+#[test]
+fn p2_dead_live_and_two_winds() {
+    let x = extremes(Settings::default(), &P2);
+    assert_eq!((x.maximum.value, x.maximum.row), (250_000, 5));
+    assert_eq!((x.maximum.acting, x.maximum.low), (0b1011, 0));
+    assert_eq!((x.minimum.value, x.minimum.row), (-110_000, 7));
+    assert_eq!((x.minimum.acting, x.minimum.low), (0b0101, 0));
+}
+
+#[test]
+fn p3_half_the_live_load() {
+    let settings = Settings {
+        live: LiveOption::Half,
+        ..Settings::default()
+    };
+    assert_eq!(maximum(settings, &P2), 225_000);
+}
+
+#[test]
+fn p4_utilisation() {
+    let mut sheet = sheet(Settings::default(), &P2);
+    let capacities = |n| Capacities { n, my: 10, mz: 10 };
+    sheet.set_capacities(0, capacities(250)).unwrap();
+    let u = sheet.utilisation(0).unwrap();
+    assert_eq!((u.numerator, u.denominator), (25_000_000, 25_000_000));
+    assert!(u.pass);
+    assert_eq!(u.ratio(), 1.0);
+    assert_eq!((u.row, u.acting, u.low), (5, 0b1011, 0));
+    sheet.set_capacities(0, capacities(249)).unwrap();
+    assert!(!sheet.utilisation(0).unwrap().pass);
+}
+
+#[test]
+fn p5_and_p6_earth_pressure() {
+    let x = extremes(
+        Settings::default(),
+        &[(Kind::Wind, 100), (Kind::EarthPermanent, -50)],
+    );
+    assert_eq!((x.maximum.value, x.minimum.value), (55_000, -80_000));
+    assert_eq!(x.maximum.low, 0b10);
+    let other = [(Kind::Wind, 100), (Kind::EarthOther, -50)];
+    assert_eq!(maximum(Settings::default(), &other), 100_000);
+}
+
+#[test]
+fn p7_flood() {
+    let cases = [(Kind::Flood, 10), (Kind::Wind, 100)];
+    assert_eq!(maximum(zone(Zone::Coastal), &cases), 120_000);
+    assert_eq!(maximum(zone(Zone::Noncoastal), &cases), 100_000);
+}
+
+#[test]
+fn p8_allowable_stress() {
+    let settings = Settings {
+        method: Method::Allowable,
+        ..Settings::default()
+    };
+    let cases = [(Kind::Live, 40), (Kind::Earthquake, 20), (Kind::Snow, 8)];
+    let x = extremes(settings, &cases);
+    assert_eq!((x.maximum.value, x.maximum.row), (46_500, 28));
+}
+
+#[test]
+fn p9_fluid_left_out() {
+    let x = extremes(
+        Settings::default(),
+        &[(Kind::Fluid, -30), (Kind::Wind, 100)],
+    );
+    assert_eq!((x.maximum.value, x.maximum.row), (100_000, 7));
+}
+
+#[test]
+fn p10_one_of_snow_and_rain() {
+    let cases = [(Kind::Snow, 100), (Kind::Rain, 100)];
+    assert_eq!(maximum(Settings::default(), &cases), 160_000);
+}
+
+#[test]
+fn two_winds_do_not_act_together() {
+    let mut sheet = sheet(Settings::default(), &[(Kind::Wind, 100), (Kind::Wind, 0)]);
+    let effects = Effects {
+        n: 0,
+        my: 100,
+        mz: 0,
+    };
+    sheet.set_effects(1, 0, effects).unwrap();
+    let capacities = Capacities {
+        n: 100,
+        my: 100,
+        mz: 100,
+    };
+    sheet.set_capacities(0, capacities).unwrap();
+    assert_eq!(sheet.utilisation(0).unwrap().ratio(), 1.0);
+}
+
+#[test]
+fn refusals_of_edits() {
+    let mut s = sheet(Settings::default(), &[(Kind::Dead, 1)]);
+    assert_eq!(s.add_case(32, Kind::Dead), Err(Refusal::CaseOutside));
+    assert_eq!(s.add_case(0, Kind::Dead), Err(Refusal::PlaceTaken));
+    assert_eq!(s.drop_case(32), Err(Refusal::CaseOutside));
+    assert_eq!(s.drop_case(1), Err(Refusal::PlaceEmpty));
+    assert_eq!(s.set_effects(32, 0, axial(0)), Err(Refusal::CaseOutside));
+    assert_eq!(s.set_effects(0, 16, axial(0)), Err(Refusal::StationOutside));
+    for n in [10_001, -10_001, i16::MAX, i16::MIN] {
+        assert_eq!(s.set_effects(0, 0, axial(n)), Err(Refusal::EffectOutside));
+    }
+    assert_eq!(s.set_effects(1, 0, axial(0)), Err(Refusal::PlaceEmpty));
+    for n in [0, 10_001, u16::MAX] {
+        let capacities = Capacities { n, my: 1, mz: 1 };
+        assert_eq!(
+            s.set_capacities(0, capacities),
+            Err(Refusal::CapacityOutside)
+        );
+        assert_eq!(
+            s.set_capacities(16, capacities),
+            Err(Refusal::StationOutside)
+        );
+    }
+    assert_eq!(s, sheet(Settings::default(), &[(Kind::Dead, 1)]));
+}
+
+#[test]
+fn refusals_of_questions() {
+    let s = Sheet::default();
+    assert_eq!(s.extremes(16, Component::Mz), Err(Refusal::StationOutside));
+    assert_eq!(s.utilisation(16), Err(Refusal::StationOutside));
+    assert_eq!(s.utilisation(0), Err(Refusal::NoCapacity));
+}
+
+#[test]
+fn refusals_of_loading() {
+    let refused = |bytes: &[u8]| Sheet::load(bytes).unwrap_err();
+    assert_eq!(refused(&[0x7F, 0, 0]), Refusal::UnknownTag);
+    assert_eq!(refused(&[6, 0, 2, 0, 0]), Refusal::UnknownTag);
+    assert_eq!(refused(&[4, 0, 2, 0, 0]), Refusal::WrongLength);
+    assert_eq!(refused(&[1, 0, 3, 1]), Refusal::Cut);
+    assert_eq!(refused(&[1, 0, 3, 3, 0, 0]), Refusal::SettingsOutside);
+    assert_eq!(refused(&[4, 0, 1, 32]), Refusal::CaseOutside);
+    assert_eq!(refused(&[7, 0, 1, 16]), Refusal::StationOutside);
+    assert_eq!(refused(&[2, 0, 2, 0, 12]), Refusal::KindOutside);
+    assert_eq!(refused(&[6, 0, 2, 0, 3]), Refusal::ComponentOutside);
+    let effects = [3, 0, 8, 0, 0, 0x27, 0x11, 0, 0, 0, 0];
+    assert_eq!(refused(&effects), Refusal::EffectOutside);
+    let capacities = [5, 0, 7, 0, 0, 0, 0, 1, 0, 1];
+    assert_eq!(refused(&capacities), Refusal::CapacityOutside);
+    assert_eq!(
+        refused(&[2, 0, 2, 0, 1, 2, 0, 2, 0, 1]),
+        Refusal::PlaceTaken
+    );
+    assert_eq!(refused(&[4, 0, 1, 0]), Refusal::PlaceEmpty);
+    assert_eq!(refused(&[7, 0, 1, 0]), Refusal::NoCapacity);
+}
+
+#[test]
+fn refusals_of_short_outputs() {
+    let field = [4, 0, 1, 0];
+    let (mut answers, mut saved) = ([9; ANSWER], [9; SAVED]);
+    let refused = answer(&[], &field, &mut answers[1..]);
+    assert_eq!(refused, Err(Refusal::OutputTooShort));
+    let refused = run(&[], &field, &mut answers, &mut saved[1..]);
+    assert_eq!(refused, Err(Refusal::OutputTooShort));
+    assert_eq!((answers, saved), ([9; ANSWER], [9; SAVED]));
+    let written = answer(&[], &field, &mut answers);
+    assert_eq!(written, Ok(4));
+    assert_eq!(answers[..5], [0x81, 0, 1, 12, 9]);
+}
+
+#[test]
+fn refusals_have_their_numbers() {
+    for (number, refusal) in (1..).zip(Refusal::ALL) {
+        assert_eq!(refusal.number(), number);
+        assert_eq!(Refusal::from_number(number), Some(refusal));
+        assert!(!refusal.to_string().is_empty());
+    }
+    assert_eq!(Refusal::from_number(0), None);
+    assert_eq!(Refusal::from_number(15), None);
+}
+
+#[test]
+fn a_list_of_fields() {
+    let settings = Settings::default();
+    let mut fields = vec![Field::Start(settings)];
+    for (case, (kind, n)) in (0..).zip(P2) {
+        fields.push(Field::AddCase { case, kind });
+        let effects = axial(n);
+        fields.push(Field::SetEffects {
+            case,
+            station: 0,
+            effects,
+        });
+    }
+    fields.push(Field::Utilisation { station: 0 });
+    fields.push(Field::Extremes {
+        station: 0,
+        component: Component::N,
+    });
+    let mut s = Sheet::default();
+    let answers = s.run(&fields);
+    assert_eq!(answers[..9], [Answer::Accepted; 9]);
+    assert_eq!(answers[9], Answer::Refused(Refusal::NoCapacity));
+    assert_eq!(answers[10], Answer::Extremes(extremes(settings, &P2)));
+    assert_eq!(answers.len(), 11);
+    assert_eq!(s, sheet(settings, &P2));
+    assert_eq!(s.run(&[]), []);
+}
+
+#[test]
+fn saved_and_loaded() {
+    assert_eq!(Sheet::default().save(), [1, 0, 3, 1, 0, 0]);
+    assert_eq!(Sheet::load(&[]).unwrap(), Sheet::default());
+    let mut s = sheet(zone(Zone::Coastal), &P2);
+    s.drop_case(1).unwrap();
+    let capacities = Capacities {
+        n: 10_000,
+        my: 1,
+        mz: 2,
+    };
+    s.set_capacities(15, capacities).unwrap();
+    let loaded = Sheet::load(s.save()).unwrap();
+    assert_eq!(loaded, s);
+    assert_eq!(loaded.save(), s.save());
+    assert_eq!(loaded.utilisation(15), s.utilisation(15));
+    assert_eq!(loaded.save()[..6], [1, 0, 3, 1, 0, 1]);
+}
+
+#[test]
+fn a_full_sheet_has_the_greatest_size() {
+    let mut fields = Vec::new();
+    for case in 0..32 {
+        let kind = Kind::Live;
+        fields.push(Field::AddCase { case, kind });
+        for station in 0..16 {
+            let effects = axial(-1);
+            fields.push(Field::SetEffects {
+                case,
+                station,
+                effects,
+            });
+        }
+    }
+    let capacities = Capacities { n: 1, my: 1, mz: 1 };
+    fields.extend((0..16).map(|station| Field::SetCapacities {
+        station,
+        capacities,
+    }));
+    let mut s = Sheet::default();
+    assert!(s.run(&fields).iter().all(|a| *a == Answer::Accepted));
+    assert_eq!(s.save().len(), SAVED);
+    assert_eq!(Sheet::load(s.save()).unwrap(), s);
+    let least = s.extremes(7, Component::N).unwrap().minimum;
+    assert_eq!((least.value, least.acting), (-51_200, u32::MAX));
+}
+
+#[test]
+fn answers_that_are_not_whole() {
+    assert_eq!(Answer::decode(&[]), None);
+    assert_eq!(Answer::decode(&[0x80, 0]), None);
+    assert_eq!(Answer::decode(&[0x81, 0, 1]), None);
+    assert_eq!(Answer::decode(&[0x81, 0, 1, 15]), None);
+    assert_eq!(Answer::decode(&[0x82, 0, 0]), None);
+    let (answer, rest) = Answer::decode(&[0x80, 0, 0, 7]).unwrap();
+    assert_eq!((answer, rest), (Answer::Accepted, &[7][..]));
+}

@@ -1,0 +1,51 @@
+-- How many bytes a reading consumes and writes, and that more room than an answer takes changes nothing.
+-- Assumes nothing.
+use Prim.Native.Nat.{ℕ, _≤_, _<_}
+use mathlib.Core.Path.{_≡_, refl, sym, _∙_}
+use mathlib.Core.List.{List}
+use native.Mathlib.Omega.{arith}
+use borrow.Author.Tests.{le-ltb}
+use lib.ListN.{length}
+use Rattle.sheet.specs.declared.Sheet.{Sheet}
+use Rattle.fields.specs.declared.Header.{Header}
+use Rattle.fields.specs.declared.Header.the-variants.{Field, Short}
+use Rattle.fields.specs.Field.{headerOf, consumedOf, consumedBy, readHeader, readField, answerBytes}
+use Rattle.fields.proofs.Laws.{header-fits}
+
+header-consumed : (h : Header) (input : List ℕ) (s : Sheet) → readHeader h input s .consumed ≡ consumedOf h input
+unfolding readHeader
+header-consumed Short input s = refl
+header-consumed (Field tag len) input s = refl
+
+header-written : (h : Header) (input : List ℕ) (s : Sheet) → readHeader h input s .written ≡ length (answerBytes (readHeader h input s .answer))
+unfolding readHeader
+header-written Short input s = refl
+header-written (Field tag len) input s = refl
+
+module _ (input : List ℕ) (s : Sheet) where
+  roomy : (room : ℕ) → 37 ≤ room → readField input room s ≡ readHeader (headerOf input) input s
+  unfolding readField
+  roomy room h = rw (le-ltb room 37 h)
+
+  pub same-with-room : (room : ℕ) → 37 ≤ room → readField input room s ≡ readField input 37 s
+  same-with-room room h = roomy room h ∙ sym (roomy 37 (omega arith))
+
+  pub read-consumed : readField input 37 s .consumed ≡ consumedBy input
+  read-consumed = rw (roomy 37 (omega arith)) (header-consumed (headerOf input) input s)
+
+  pub read-written : readField input 37 s .written ≡ length (answerBytes (readField input 37 s .answer))
+  read-written = rw (roomy 37 (omega arith)) (header-written (headerOf input) input s)
+
+within-header : (h : Header) (input : List ℕ) → h ≡ headerOf input → consumedOf h input ≤ length input
+within-header Short input e = omega arith
+within-header (Field tag len) input e = header-fits input tag len e refl
+
+some-header : (h : Header) (input : List ℕ) → 0 < length input → 0 < consumedOf h input
+some-header Short input g = g
+some-header (Field tag len) input g = omega arith
+
+pub consumed-within : (input : List ℕ) → consumedBy input ≤ length input
+consumed-within input = within-header (headerOf input) input refl
+
+pub consumed-some : (input : List ℕ) → 0 < length input → 0 < consumedBy input
+consumed-some input g = some-header (headerOf input) input g

@@ -1,0 +1,25 @@
+-- `fields::field_in` meets its contract: the run where tag and length are right, else all as it was.
+-- Assumes nothing.
+use mathlib.Core.Path.{sym, _∙_}
+use borrow.Author.Tests.{eq-eqb, ne-eqb}
+use Rattle.fields.specs.Field.{fieldOf}
+use borrow.Author.Needs.{needs}
+use Rattle.fields.proofs.field_in.Statement.{statement}
+use Rattle.fields.proofs.field_in.Tie as tie
+
+due-header-requires : tie.Need-due-header-requires
+due-header-requires c κs = search needs
+
+run-in-requires : tie.Need-run-in-requires
+run-in-requires c κs = search needs
+
+returns : tie.Need-returns
+unfolding fieldOf
+returns c = rw (eq-eqb _ _ (sym (c .before .before .before .due-header .ensures) ∙ c .before .before .if1 .taken)) (c .run-in .ensures)
+
+returns-2 : tie.Need-returns-2
+unfolding fieldOf
+returns-2 c = rw (← c .before .due-header .ensures, ne-eqb _ _ (c .if1 .left))
+
+pub field-in-spec : {M : Type 1} → statement M
+field-in-spec = tie.close (tie.spec due-header-requires run-in-requires returns returns-2)

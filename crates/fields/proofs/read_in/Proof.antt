@@ -1,0 +1,99 @@
+-- `fields::read_in` meets its contract: refusals 14 and 3, and then the field's own answer.
+-- Assumes nothing.
+use Prim.Native.Nat.{_+_, _-_}
+use mathlib.Core.Path.{_≡_, refl, sym, _∙_, ap}
+use native.Mathlib.Omega.{arith}
+use borrow.Author.Tests.{lt-ltb, le-ltb}
+use Rattle.wire.specs.Bytes.{over}
+use Rattle.fields.specs.Field.{readField, readHeader, reading, answerBytes}
+use Rattle.fields.proofs.Laws.{header-fits}
+use Rattle.fields.proofs.Within.{read-on}
+use borrow.Author.Needs.{needs}
+use Rattle.fields.proofs.read_in.Statement.{statement}
+use Rattle.fields.proofs.read_in.Tie as tie
+
+returns : tie.Need-returns
+unfolding readField over answerBytes
+returns c = read-on (c .before .before .before .pre) (record { reading = rw (lt-ltb _ _ (c .if1 .taken)); output = refl })
+
+header-of-requires : tie.Need-header-of-requires
+header-of-requires c κs = search needs
+
+enum-known-h : tie.Need-enum-known-h
+enum-known-h c = search needs
+
+enum-told : tie.Need-enum-told
+enum-told c = search needs
+
+put-answer-requires : tie.Need-put-answer-requires
+put-answer-requires c κs = search needs
+
+same-length : tie.Need-same-length
+same-length c = search needs
+
+returns-2 : tie.Need-returns-2
+unfolding readField readHeader
+returns-2 c =
+    let m = c .before .before .before .before .before .before in
+    let e = sym (m .header-of .ensures) ∙ c .before .before .before .before .enum-told .given .1 in
+    let p = c .before .before .put-answer .ensures in
+    read-on (m .before .before .before .before .pre) (record { reading = rw (le-ltb _ _ (m .before .if1 .left), e, p .0); output = p .1 })
+
+add-field-in : tie.Need-add-field-in
+add-field-in c = omega (arith, header-fits _ _ _ (c .before .before .before .before .header-of .ensures) (c .before .before .h .given .1))
+
+sub-field-in : tie.Need-sub-field-in
+sub-field-in c = search needs
+
+part-field-in-start : tie.Need-part-field-in-start
+part-field-in-start c = search needs
+
+part-field-in-end : tie.Need-part-field-in-end
+part-field-in-end c = header-fits _ _ _ (c .before .before .before .before .header-of .ensures) (c .before .before .h .given .1)
+
+field-in-requires : tie.Need-field-in-requires
+field-in-requires c κs = search needs
+
+put-answer-requires-2 : tie.Need-put-answer-requires-2
+put-answer-requires-2 c κs = search needs
+
+add-t14 : tie.Need-add-t14
+add-t14 c =
+    let h = c .before .before .before .before .before .before .before .before .before in
+    omega (arith, header-fits _ _ _ (h .before .before .header-of .ensures) (h .h .given .1))
+
+same-length-2 : tie.Need-same-length-2
+same-length-2 c = search needs
+
+returns-3 : tie.Need-returns-3
+unfolding readField readHeader
+returns-3 c =
+    let f = c .before .before .before .before .before in
+    let h = f .before .before .before .before in
+    let l = h .h .given .0 .1 .0 in
+    let g : 3 + l - 3 ≡ l = omega arith in
+    let e = sym (h .before .before .header-of .ensures) ∙ h .h .given .1 in
+    let p = c .before .before .before .put-answer2 .ensures in
+    read-on (h .before .before .before .before .before .before .pre)
+    (record { reading = rw (le-ltb _ _ (h .before .before .before .if1 .left), e, p .0) (ap (reading (3 + l)) (rw g at (f .field-in .ensures))); output = p .1 })
+
+pub read-in-spec : {M : Type 1} → statement M
+read-in-spec =
+    tie.close
+    (tie.spec
+    returns
+    header-of-requires
+    enum-known-h
+    enum-told
+    put-answer-requires
+    same-length
+    returns-2
+    add-field-in
+    sub-field-in
+    part-field-in-start
+    part-field-in-end
+    field-in-requires
+    put-answer-requires-2
+    add-t14
+    same-length-2
+    returns-3)

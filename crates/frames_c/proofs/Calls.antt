@@ -1,0 +1,151 @@
+-- What the exported calls come to: the state loaded, the fields answered, and the refusals.
+-- Assumes nothing.
+use Prim.Native.Nat.{ℕ, _*_, _/_, _≤_}
+use mathlib.Core.Path.{_≡_, refl, sym, _∙_, ap}
+use mathlib.Core.List.{List, [], _∷_}
+use mathlib.Core.Bool.{Bool, true, false, cond}
+use mathlib.Core.Logic.{⊎-elim}
+use native.Mathlib.Nat.{zero-add, mul-suc}
+use native.Mathlib.Omega.{arith}
+use borrow.Author.Tests.{le-ltb, lt-ltb, ltb-false, ne-eqb}
+use lib.ListN.{length, replicate, length-append}
+use lib.Dec.{ltb}
+use lib.IntN.{ℤ}
+use Rattle.wire.specs.Bytes.{over}
+use Rattle.wire.proofs.Cases.{lt-or-ge}
+use Rattle.wire.proofs.Stores.{front}
+use Rattle.sheet.specs.declared.Sheet.{Sheet}
+use Rattle.sheet.specs.declared.Rest.{Rest}
+use Rattle.sheet.specs.Sheet.{zeros, fresh, freshSheet}
+use Rattle.sheet.specs.Edits.{dueSettings}
+use Rattle.sheet.specs.Range.{InRange}
+use Rattle.sheet.specs.Parts.{whole}
+use Rattle.sheet.proofs.Kept.{fresh-in-range}
+use Rattle.fields.specs.Field.{readField}
+use Rattle.fields.proofs.Kept.{read-kept}
+use Rattle.fields.proofs.Within.{answer-fits}
+use Rattle.saving.specs.Saved.{savedBytes, savedAnswer, savedOver}
+use Rattle.saving.specs.declared.Saved.{Saved}
+use Rattle.saving.proofs.Lengths.{saved-most}
+use Rattle.frames_c.specs.declared.Progress.{Progress}
+use Rattle.frames_c.specs.Lists.{fieldsOf, sheetAfter, answersTo, bytesOf, loaded, dueState, short, dueAnswer, dueRun, answered, AnswerDone, RunDone}
+use Rattle.frames_c.specs.Loop.{State, starting, steppedAll, stateOf, Room, countOf}
+use Rattle.frames_c.proofs.Loop.{sheet-after, refusal-after, written-after, output-after}
+
+pub kept-after : (fs : List (List ℕ)) (s : Sheet) → InRange s → InRange (sheetAfter fs s)
+unfolding sheetAfter
+kept-after [] s h = h
+kept-after (f ∷ fs) s h = kept-after fs (readField f 37 s .sheet) (read-kept f 37 s h)
+
+pub fresh-kept : InRange freshSheet
+unfolding dueSettings
+fresh-kept = fresh-in-range (record { method = 1; live = 0; zone = 0 }) refl
+
+-- a fresh sheet apart from its effects
+abbrev pub freshRest : Rest
+freshRest = record { settings = record { method = 1; live = 0; zone = 0 }; kinds = replicate 32 0; capacities = replicate 48 0 }
+
+pub fresh-whole : {effects : List ℤ} → effects ≡ zeros 1536 → whole freshRest effects ≡ freshSheet
+unfolding fresh
+fresh-whole e = rw e
+
+-- 37 bytes a field are room for the answers
+answers-long : (fs : List (List ℕ)) (s : Sheet) → length (bytesOf (answersTo fs s)) ≤ 37 * length fs
+unfolding answersTo bytesOf
+answers-long [] s = omega arith
+answers-long (f ∷ fs) s =
+    let a = readField f 37 s .answer in
+    let h = answers-long fs (readField f 37 s .sheet) in
+    let g = answer-fits a in
+    let e = mul-suc 37 (length fs) in
+    rw length-append (omega arith)
+
+-- the end of the loop over a state, and over the fields of a call
+pub load-is : (state : List ℕ) (p : Progress) (effects : List ℤ) (o : List ℕ) {o′ : List ℕ} →
+    stateOf p effects o′ ≡ steppedAll false (starting freshSheet o) (fieldsOf state) →
+    (whole (p .rest) effects ≡ loaded state) × (p .refusal ≡ dueState state) × InRange (whole (p .rest) effects)
+load-is state p effects o e =
+    let s : whole (p .rest) effects ≡ loaded state = ap (λ (x : State). x .sheet) e ∙ sheet-after false (fieldsOf state) (starting freshSheet o) in
+    (s, ap (λ (x : State). x .refusal) e ∙ refusal-after false (fieldsOf state) (starting freshSheet o), rw s (kept-after (fieldsOf state) freshSheet fresh-kept))
+
+record Ended (input : List ℕ) (s : Sheet) (o : List ℕ) (q : Progress) (effects : List ℤ) (o′ : List ℕ) : Type 0 where
+  sheet : whole (q .rest) effects ≡ sheetAfter (fieldsOf input) s
+  written : q .written ≡ length (bytesOf (answersTo (fieldsOf input) s))
+  output : o′ ≡ over (bytesOf (answersTo (fieldsOf input) s)) o
+
+ended : (input : List ℕ) (s : Sheet) (o : List ℕ) (q : Progress) (effects : List ℤ) {o′ : List ℕ} → 37 * length (fieldsOf input) ≤ length o →
+    stateOf q effects o′ ≡ steppedAll true (starting s o) (fieldsOf input) → Ended input s o q effects o′
+ended input s o q effects h e =
+    let fs = fieldsOf input in
+    let l : length (bytesOf (answersTo fs s)) ≤ length o = omega (arith, answers-long fs s) in
+    record {
+      sheet = ap (λ (x : State). x .sheet) e ∙ sheet-after true fs (starting s o);
+      written = ap (λ (x : State). x .written) e ∙ (written-after fs (starting s o) ∙ zero-add (length (bytesOf (answersTo fs s))));
+      output = ap (λ (x : State). x .output) e ∙ (output-after fs (starting s o) ∙ front (bytesOf (answersTo fs s)) o l);
+    }
+
+-- no refusal is due: neither 14 nor that of the state
+none-due : (t : Bool) (n : ℕ) → cond t 14 n ≡ 0 → (t ≡ false) × (n ≡ 0)
+none-due true n e = absurd (omega arith)
+none-due false n e = (refl, e)
+
+-- the test by a quotient is the test by a product
+pub short-is : (room n : ℕ) → ltb (room / 37) n ≡ ltb room (37 * n)
+short-is room n =
+    ⊎-elim (λ l. lt-ltb (room / 37) n (omega arith) ∙ sym (lt-ltb room (37 * n) l))
+    (λ g. le-ltb (room / 37) n (omega arith) ∙ sym (le-ltb room (37 * n) g)) (lt-or-ge room (37 * n))
+
+pub roomy : (n room : ℕ) → 37 * n ≤ room → Room true 0 n room
+unfolding Room
+roomy n room h = omega arith
+
+-- the refusal as the calls work it out
+pub answer-due : (state input : List ℕ) (room : ℕ) {due rest : ℕ} {t : Bool} → due ≡ cond t 14 rest → t ≡ short input room → rest ≡ dueState state →
+    due ≡ dueAnswer state input room
+answer-due state input room d t r = d ∙ rw (t, r)
+
+module _ (state input o : List ℕ) where
+  pub answer-room : dueAnswer state input (length o) ≡ 0 → 37 * length (fieldsOf input) ≤ length o
+  answer-room e = ltb-false (length o) (37 * length (fieldsOf input)) (none-due (short input (length o)) (dueState state) e .0)
+
+  pub answer-refused : {due : ℕ} → due ≡ dueAnswer state input (length o) → (due ≡ 0 → ⊥) →
+      AnswerDone state input o (record { refusal = due; written = 0; saved = 0 }) o
+  answer-refused {due} d n = record { result = rw (← d, ne-eqb due 0 n); written = rw (← d, ne-eqb due 0 n) }
+
+  pub answer-done : {o′ : List ℕ} (q : Progress) (effects : List ℤ) → dueAnswer state input (length o) ≡ 0 →
+      stateOf q effects o′ ≡ steppedAll true (starting (loaded state) o) (fieldsOf input) →
+      AnswerDone state input o (record { refusal = 0; written = q .written; saved = 0 }) o′
+  answer-done q effects d e =
+      let x = ended input (loaded state) o q effects (answer-room d) e in
+      record { result = rw (d, x .written); written = rw (d, x .output) }
+
+  module _ (place : List ℕ) where
+    abbrev due : ℕ
+    due = dueRun state input (length o) (length place)
+
+    pub run-due-is : {n m rest : ℕ} {t : Bool} → n ≡ cond (ltb (length place) 5958) 14 m → m ≡ cond t 14 rest → t ≡ short input (length o) → rest ≡ dueState state → n ≡ due
+    run-due-is e d t r = e ∙ ap (λ (k : ℕ). cond (ltb (length place) 5958) 14 k) (answer-due state input (length o) d t r)
+
+    pub run-due : due ≡ 0 → (5958 ≤ length place) × (dueAnswer state input (length o) ≡ 0)
+    run-due e =
+        let x = none-due (ltb (length place) 5958) (dueAnswer state input (length o)) e in
+        (ltb-false (length place) 5958 (x .0), x .1)
+
+    pub run-refused : {n : ℕ} → n ≡ due → (n ≡ 0 → ⊥) → RunDone state input o place (record { refusal = n; written = 0; saved = 0 }) o place
+    run-refused {n} d h = record { result = rw (← d, ne-eqb n 0 h); written = rw (← d, ne-eqb n 0 h); saved = rw (← d, ne-eqb n 0 h) }
+
+    pub run-done : {o′ place′ : List ℕ} (q : Progress) (effects : List ℤ) {s : Saved} {n : ℕ} → due ≡ 0 →
+        stateOf q effects o′ ≡ steppedAll true (starting (loaded state) o) (fieldsOf input) →
+        s ≡ savedAnswer (whole (q .rest) effects) (length place) → place′ ≡ savedOver (whole (q .rest) effects) place → n ≡ countOf s →
+        RunDone state input o place (record { refusal = 0; written = q .written; saved = n }) o′ place′
+    unfolding savedAnswer savedOver
+    run-done q effects d e a b c =
+        let r = run-due d in
+        let x = ended input (loaded state) o q effects (answer-room (r .1)) e in
+        let after = sheetAfter (fieldsOf input) (loaded state) in
+        let l : length (savedBytes after) ≤ length place = omega (arith, saved-most after, r .0) in
+        record {
+          result = rw (d, c, a, x .sheet, le-ltb (length place) (length (savedBytes after)) l, x .written);
+          written = rw (d, x .output);
+          saved = rw (d, b, x .sheet, le-ltb (length place) (length (savedBytes after)) l);
+        }

@@ -1,0 +1,5 @@
+pub mod Lists
+pub mod Steps
+pub mod Loop
+pub mod Calls
+pub mod States

@@ -1,0 +1,94 @@
+-- Lists of fields on a sheet that is given as its saved bytes: what each exported call answers, writes and saves.
+use Prim.Native.Nat.{ℕ, zero, suc, _*_}
+use mathlib.Core.List.{List, [], _∷_, _++_}
+use mathlib.Core.Path.{_≡_}
+use mathlib.Core.Bool.{Bool, cond}
+use lib.ListN.{length, drop}
+use lib.Dec.{ltb, eqb}
+use Rattle.wire.specs.Bytes.{over}
+use Rattle.sheet.specs.declared.Sheet.{Sheet}
+use Rattle.sheet.specs.declared.Answer.{Answer}
+use Rattle.sheet.specs.declared.Answer.the-variants as answer
+use Rattle.sheet.specs.Sheet.{freshSheet}
+use Rattle.fields.specs.Field.{consumedBy, readField, answerBytes}
+use Rattle.saving.specs.Saved.{savedBytes}
+use Rattle.frames_c.specs.declared.Ran.{Ran}
+
+-- 01, 'A sheet and its seven fields': the fields of a list, each as the bytes from its tag on; n is at least their number
+unfoldable pub fieldsFrom : ℕ → List ℕ → List (List ℕ)
+fieldsFrom zero input = []
+fieldsFrom (suc n) [] = []
+fieldsFrom (suc n) (b ∷ bs) = (b ∷ bs) ∷ fieldsFrom n (drop (consumedBy (b ∷ bs)) (b ∷ bs))
+
+abbrev pub fieldsOf : List ℕ → List (List ℕ)
+fieldsOf input = fieldsFrom (length input) input
+
+-- 01, 'Admissible combinations': each is read on the sheet that the one before returned. The sheet after them, and their answers.
+unfoldable pub sheetAfter : List (List ℕ) → Sheet → Sheet
+sheetAfter [] s = s
+sheetAfter (f ∷ fs) s = sheetAfter fs (readField f 37 s .sheet)
+
+unfoldable pub answersTo : List (List ℕ) → Sheet → List Answer
+answersTo [] s = []
+answersTo (f ∷ fs) s = readField f 37 s .answer ∷ answersTo fs (readField f 37 s .sheet)
+
+-- the answer fields, one after the other
+unfoldable pub bytesOf : List Answer → List ℕ
+bytesOf [] = []
+bytesOf (a ∷ rest) = answerBytes a ++ bytesOf rest
+
+-- 01, 'Saving': a saved sheet has fields that are accepted, and tags 06 and 07 are none of its tags
+abbrev pub refusalOf : Answer → ℕ
+refusalOf answer.Accepted = 0
+refusalOf (answer.Refused n) = n
+refusalOf (answer.Extremes x) = 1
+refusalOf (answer.Utilisation x) = 1
+
+-- the first refusal, or 0
+unfoldable pub firstRefusal : List Answer → ℕ
+firstRefusal [] = 0
+firstRefusal (a ∷ rest) = cond (eqb (refusalOf a) 0) (firstRefusal rest) (refusalOf a)
+
+-- the sheet that a state gives, and its refusal
+abbrev pub loaded : List ℕ → Sheet
+loaded state = sheetAfter (fieldsOf state) freshSheet
+
+abbrev pub dueState : List ℕ → ℕ
+dueState state = firstRefusal (answersTo (fieldsOf state) freshSheet)
+
+-- 01, 'Answer fields': 14 comes first, for an output of under 37 bytes for each field
+abbrev pub short : List ℕ → ℕ → Bool
+short input room = ltb room (37 * length (fieldsOf input))
+
+abbrev pub dueAnswer : List ℕ → List ℕ → ℕ → ℕ
+dueAnswer state input room = cond (short input room) 14 (dueState state)
+
+-- and for a place to save of under 5,958 bytes, the greatest saved size
+abbrev pub dueRun : List ℕ → List ℕ → ℕ → ℕ → ℕ
+dueRun state input room place = cond (ltb place 5958) 14 (dueAnswer state input room)
+
+-- the answers to a list, and the saved sheet after it
+abbrev pub answered : List ℕ → List ℕ → List ℕ
+answered state input = bytesOf (answersTo (fieldsOf input) (loaded state))
+
+abbrev pub savedAfter : List ℕ → List ℕ → List ℕ
+savedAfter state input = savedBytes (sheetAfter (fieldsOf input) (loaded state))
+
+-- a refused call writes and saves nothing
+abbrev pub ranUnless : ℕ → ℕ → ℕ → Ran
+ranUnless due written saved =
+    cond (eqb due 0) (record { refusal = 0; written = written; saved = saved }) (record { refusal = due; written = 0; saved = 0 })
+
+abbrev pub overUnless : ℕ → List ℕ → List ℕ → List ℕ
+overUnless due w o = cond (eqb due 0) (over w o) o
+
+-- what `frames_answer` ensures: its result and every byte of the output
+pub record AnswerDone (state input output : List ℕ) (r : Ran) (output′ : List ℕ) : Type 0 where
+  pub result : r ≡ ranUnless (dueAnswer state input (length output)) (length (answered state input)) 0
+  pub written : output′ ≡ overUnless (dueAnswer state input (length output)) (answered state input) output
+
+-- what `frames_run` ensures: its result, every byte of the output and every byte of the place to save
+pub record RunDone (state input output place : List ℕ) (r : Ran) (output′ place′ : List ℕ) : Type 0 where
+  pub result : r ≡ ranUnless (dueRun state input (length output) (length place)) (length (answered state input)) (length (savedAfter state input))
+  pub written : output′ ≡ overUnless (dueRun state input (length output) (length place)) (answered state input) output
+  pub saved : place′ ≡ overUnless (dueRun state input (length output) (length place)) (savedAfter state input) place

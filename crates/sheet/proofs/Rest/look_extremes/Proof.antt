@@ -1,0 +1,84 @@
+-- `sheet::Rest::look_extremes` meets its contract: the envelope of the station's part of the effects.
+-- Assumes nothing.
+use native.Mathlib.Omega.{arith}
+use mathlib.Core.List.{List}
+use mathlib.Core.Path.{sym, ap, subst, _∙_}
+use lib.IntN.{ℤ}
+use Rattle.envelope.specs.Range.{kindOf, effectOf, StationInRange}
+use Rattle.envelope.specs.Envelope.{extremesOf}
+use Rattle.sheet.specs.declared.Answer.the-variants as answer
+use Rattle.sheet.specs.Looks.{extremesAt, dueExtremes}
+use Rattle.sheet.specs.Parts.{whole}
+use Rattle.sheet.proofs.Refusals.{extremes-range, answered-none, answered-due}
+use Rattle.sheet.proofs.Stations.{station-in-range, part-is}
+use borrow.Author.Needs.{needs}
+use Rattle.sheet.proofs.Rest.look_extremes.Statement.{statement}
+use Rattle.sheet.proofs.Rest.look_extremes.Tie as tie
+
+due-extremes-requires : tie.Need-due-extremes-requires
+due-extremes-requires c κs = search needs
+
+mul-from : tie.Need-mul-from
+mul-from c = search needs
+
+add-to : tie.Need-add-to
+add-to c = search needs
+
+slice-aggregate-extremes-of : tie.Need-slice-aggregate-extremes-of
+slice-aggregate-extremes-of c = search needs
+
+mul-extremes-of : tie.Need-mul-extremes-of
+mul-extremes-of c = search needs
+
+sub-extremes-of : tie.Need-sub-extremes-of
+sub-extremes-of c = search needs
+
+part-extremes-of-start : tie.Need-part-extremes-of-start
+part-extremes-of-start c = search needs
+
+part-extremes-of-end : tie.Need-part-extremes-of-end
+part-extremes-of-end c =
+    let d = c .before .before .before in
+    let s = d .before in
+    let r = extremes-range (s .args .station) (s .args .component) (sym (d .due-extremes .ensures) ∙ c .before .before .if1 .taken) in
+    omega (arith, r .0, s .pre .effects-long)
+
+extremes-of-requires : tie.Need-extremes-of-requires
+extremes-of-requires c κs =
+    let d = c .before .before .before .before in
+    let s = d .before in
+    let w = whole (s .args .self) (s .args .effects .now) in
+    let r = extremes-range (s .args .station) (s .args .component) (sym (d .due-extremes .ensures) ∙ c .before .before .before .if1 .taken) in
+    (subst (StationInRange (w .kinds)) (sym (part-is w (s .args .station))) (station-in-range w (s .args .station) (s .pre) (r .0)), r .1)
+
+returns : tie.Need-returns
+unfolding extremesAt
+returns c =
+    let d = c .before .before .before .before .before in
+    let s = d .before in
+    let w = whole (s .args .self) (s .args .effects .now) in
+    ap (λ x. answer.Extremes x) (c .extremes-of .ensures
+    ∙ ap (λ (l : List ℤ). extremesOf (w .settings) (kindOf (w .kinds)) (λ k. effectOf l k (s .args .component))) (part-is w (s .args .station)))
+    ∙ answered-none (dueExtremes (s .args .station) (s .args .component)) _ (sym (d .due-extremes .ensures) ∙ c .before .before .before .before .if1 .taken)
+
+returns-2 : tie.Need-returns-2
+returns-2 c =
+    let d = c .before in
+    let s = d .before in
+    answered-due (dueExtremes (s .args .station) (s .args .component)) (answer.Extremes (extremesAt (whole (s .args .self) (s .args .effects .now)) (s .args .station) (s .args .component))) (d .due-extremes .ensures) (c .if1 .left)
+
+pub look-extremes-spec : {M : Type 1} → statement M
+look-extremes-spec =
+    tie.close
+    (tie.spec
+    due-extremes-requires
+    mul-from
+    add-to
+    slice-aggregate-extremes-of
+    mul-extremes-of
+    sub-extremes-of
+    part-extremes-of-start
+    part-extremes-of-end
+    extremes-of-requires
+    returns
+    returns-2)

@@ -1,0 +1,151 @@
+-- `sheet::Rest::look_utilisation` meets its contract: the utilisation of the station's part of the effects.
+-- Assumes nothing.
+use Prim.Native.Nat.{ℕ, _*_, _<_}
+use native.Mathlib.Nat.{add-zero}
+use native.Mathlib.Omega.{arith}
+use mathlib.Core.Path.{_≡_, sym, ap, subst, _∙_}
+use lib.ListN.{getD}
+use Rattle.envelope.specs.Range.{kindOf, effectOf, StationInRange, CapacitiesInRange}
+use Rattle.envelope.specs.Envelope.{utilisedOf}
+use Rattle.sheet.specs.declared.Answer.the-variants as answer
+use Rattle.sheet.specs.Sheet.{capacityAt}
+use Rattle.sheet.specs.Looks.{utilisationAt, dueUtilisation, dueUtilisationAt}
+use Rattle.sheet.specs.Parts.{whole}
+use Rattle.sheet.proofs.Refusals.{utilisation-range, answered-none, answered-due}
+use Rattle.sheet.proofs.Stations.{station-in-range, part-is, capacities-in-range, capacities-read}
+use borrow.Author.Needs.{needs}
+use Rattle.sheet.proofs.Rest.look_utilisation.Statement.{statement}
+use Rattle.sheet.proofs.Rest.look_utilisation.Tie as tie
+
+-- the refusal that the code works out is the one due on the sheet
+due-is : (c : tie.After-due-utilisation) → let s = c .before .before .before .before .before in
+    c .due-utilisation .result ≡ dueUtilisation (whole (s .args .self) (s .args .effects .now)) (s .args .station)
+unfolding capacityAt
+due-is c =
+    let n = c .before in
+    let s = n .before .before .before .before in
+    c .due-utilisation .ensures
+    ∙ ap (λ (h : ℕ). dueUtilisationAt h (s .args .station)) (n .number-at .ensures ∙ ap (λ (i : ℕ). getD (s .args .self .capacities) i 0) (sym (add-zero (s .args .station * 3))))
+
+-- a station that has capacities
+held : (c : tie.After-due-utilisation) → c .due-utilisation .result ≡ 0 → let s = c .before .before .before .before .before in
+    (s .args .station < 16) × (0 < capacityAt (whole (s .args .self) (s .args .effects .now)) (s .args .station) 0)
+held c e =
+    let s = c .before .before .before .before .before in
+    utilisation-range (capacityAt (whole (s .args .self) (s .args .effects .now)) (s .args .station) 0) (s .args .station) (sym (due-is c) ∙ e)
+
+mul-at : tie.Need-mul-at
+mul-at c = search needs
+
+slice-aggregate-number-at : tie.Need-slice-aggregate-number-at
+slice-aggregate-number-at c = search needs
+
+number-at-requires : tie.Need-number-at-requires
+number-at-requires c κs = search needs
+
+due-utilisation-requires : tie.Need-due-utilisation-requires
+due-utilisation-requires c κs = search needs
+
+mul-from : tie.Need-mul-from
+mul-from c = search needs
+
+add-to : tie.Need-add-to
+add-to c = search needs
+
+mul-t17 : tie.Need-mul-t17
+mul-t17 c = search needs
+
+array-read-t20 : tie.Need-array-read-t20
+array-read-t20 c = omega (arith, held (c .before) (c .if1 .taken) .0)
+
+add-t21 : tie.Need-add-t21
+add-t21 c = search needs
+
+mul-t22 : tie.Need-mul-t22
+mul-t22 c = search needs
+
+array-read-t25 : tie.Need-array-read-t25
+array-read-t25 c = omega (arith, held (c .before) (c .if1 .taken) .0)
+
+add-t26 : tie.Need-add-t26
+add-t26 c = search needs
+
+mul-t27 : tie.Need-mul-t27
+mul-t27 c = search needs
+
+array-read-t30 : tie.Need-array-read-t30
+array-read-t30 c = omega (arith, held (c .before) (c .if1 .taken) .0)
+
+slice-aggregate-utilisation-of : tie.Need-slice-aggregate-utilisation-of
+slice-aggregate-utilisation-of c = search needs
+
+mul-utilisation-of : tie.Need-mul-utilisation-of
+mul-utilisation-of c = search needs
+
+sub-utilisation-of : tie.Need-sub-utilisation-of
+sub-utilisation-of c = search needs
+
+part-utilisation-of-start : tie.Need-part-utilisation-of-start
+part-utilisation-of-start c = search needs
+
+part-utilisation-of-end : tie.Need-part-utilisation-of-end
+part-utilisation-of-end c =
+    let d = c .before .before in
+    let s = d .before .before .before .before .before in
+    omega (arith, held d (c .before .if1 .taken) .0, s .pre .effects-long)
+
+utilisation-of-requires : tie.Need-utilisation-of-requires
+utilisation-of-requires c κs =
+    let d = c .before .before .before in
+    let s = d .before .before .before .before .before in
+    let w = whole (s .args .self) (s .args .effects .now) in
+    let t = s .args .station in
+    let r = held d (c .before .before .if1 .taken) in (
+      subst (StationInRange (w .kinds)) (sym (part-is w t)) (station-in-range w t (s .pre) (r .0)),
+      subst CapacitiesInRange (sym (capacities-read w t)) (capacities-in-range w t (s .pre) (r .0) (r .1)),
+    )
+
+returns : tie.Need-returns
+unfolding utilisationAt
+returns c =
+    let d = c .before .before .before .before in
+    let s = d .before .before .before .before .before in
+    let w = whole (s .args .self) (s .args .effects .now) in
+    let t = s .args .station in
+    ap (λ x. answer.Utilisation x) (c .utilisation-of .ensures
+    ∙ (λ i. utilisedOf (w .settings) (kindOf (w .kinds)) (effectOf (part-is w t i)) (capacities-read w t i)))
+    ∙ answered-none (dueUtilisation w t) _ (sym (due-is d) ∙ c .before .before .before .if1 .taken)
+
+returns-2 : tie.Need-returns-2
+returns-2 c =
+    let d = c .before in
+    let s = d .before .before .before .before .before in
+    let w = whole (s .args .self) (s .args .effects .now) in
+    answered-due (dueUtilisation w (s .args .station)) (answer.Utilisation (utilisationAt w (s .args .station))) (due-is d) (c .if1 .left)
+
+pub look-utilisation-spec : {M : Type 1} → statement M
+look-utilisation-spec =
+    tie.close
+    (tie.spec
+    mul-at
+    slice-aggregate-number-at
+    number-at-requires
+    due-utilisation-requires
+    mul-from
+    add-to
+    mul-t17
+    array-read-t20
+    add-t21
+    mul-t22
+    array-read-t25
+    add-t26
+    mul-t27
+    array-read-t30
+    slice-aggregate-utilisation-of
+    mul-utilisation-of
+    sub-utilisation-of
+    part-utilisation-of-start
+    part-utilisation-of-end
+    utilisation-of-requires
+    returns
+    returns-2)
