@@ -1,11 +1,6 @@
-pub mod Exchange
-pub mod Value
 pub mod Rows
+pub mod Spans
 pub mod Maximum
 pub mod Utilisation
-pub mod Tallied
-pub mod Weighing
-pub mod Leads
-pub mod Named
 pub mod Limits
 pub mod Patterns

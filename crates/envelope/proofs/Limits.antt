@@ -1,25 +1,55 @@
 -- The governing row is a row of the table, and its value fits, by a bound over the cases for factors up to 21,000.
 -- Assumes nothing.
-use Prim.Native.Nat.{ℕ, _+_, _*_, _<_, _≤_, _^_}
+use Prim.Native.Nat.{ℕ, _+_, _*_, _<_, _≤_, _^_, min}
 use native.Mathlib.Nat.{mul-le-mul, le-trans}
 use native.Mathlib.Omega.{arith}
+use mathlib.Core.Bool.{Bool, true, false, cond}
+use mathlib.Core.List.{List}
 use mathlib.Core.Path.{_≡_, ap, sym, subst}
 use lib.Dec.{eqb}
-use lib.IntN.{ℤ, pos, negℤ, natAbs}
+use lib.IntN.{ℤ, pos, negℤ, _+ℤ_, _*ℤ_, natAbs}
 use Rattle.integers.specs.Sums.{when, sum, most, up, down}
-use Rattle.integers.proofs.Signs.{abs-add, abs-negated, abs-parts}
+use Rattle.integers.proofs.Signs.{abs-add, abs-mul, abs-negated, abs-parts}
 use Rattle.integers.proofs.Sums.{when-le, sum-most, most-le}
 use Rattle.standard.specs.declared.Settings.{Settings}
-use Rattle.standard.specs.Kinds.{classOf, groups}
-use Rattle.standard.specs.Rows.{rows, factorOf}
+use Rattle.standard.specs.declared.Class.{Class}
+use Rattle.standard.specs.declared.Class.the-variants.{Always, Subset, OneOf, Unknown}
+use Rattle.standard.specs.Kinds.{classOf, groups, permanentEarth}
+use Rattle.standard.specs.Rows.{rows, factorOf, lowOf}
 use Rattle.standard.specs.Combination.{cases}
 use Rattle.standard.proofs.Facts.{factor-le}
-use Rattle.optimum.specs.Row.{greatestOf, leastOf, lowerOf, groupOf, worthOf, gainOf, lossOf, rowMaximum}
+use Rattle.optimum.specs.Row.{greatestBy, leastBy, greatestOf, leastOf, lowerOf, groupOf, worthOf, gainOf, lossOf, rowMaximum}
 use Rattle.envelope.specs.declared.Best.{Best}
-use Rattle.envelope.specs.Envelope.{governingOf}
-use Rattle.envelope.specs.Sums.{effectMost}
+use Rattle.envelope.specs.declared.Weights.{Weights}
+use Rattle.envelope.specs.Range.{effectOf, effectMost, EffectsInRange, WeightsInRange}
+use Rattle.envelope.specs.Envelope.{governingOf, weighed}
 use Rattle.envelope.proofs.Rows.{best-some}
-use Rattle.envelope.proofs.Value.{greatest-most, least-most}
+
+-- ---- factors up to F
+greatest-le : (q : Class) (f : ℕ) → greatestBy q f ≤ f
+greatest-le Always f = omega arith
+greatest-le Subset f = omega arith
+greatest-le (OneOf g) f = omega arith
+greatest-le Unknown f = omega arith
+
+least-le : (q : Class) (f : ℕ) → leastBy q f ≤ f
+least-le Always f = omega arith
+least-le Subset f = omega arith
+least-le (OneOf g) f = omega arith
+least-le Unknown f = omega arith
+
+lower-by : (t : Bool) (a f : ℕ) → cond t (min a f) f ≤ f
+lower-by true a f = omega arith
+lower-by false a f = omega arith
+
+module _ (F : ℕ) (s : Settings) (row : ℕ) (limit : (k : ℕ) → factorOf s row k ≤ F) where
+  pub greatest-most : (j : ℕ) → greatestOf s row j ≤ F
+  unfolding greatestOf
+  greatest-most j = le-trans (greatest-le (classOf j) (factorOf s row j)) (limit j)
+
+  pub least-most : (j : ℕ) → leastOf s row j ≤ F
+  unfolding leastOf lowerOf
+  least-most j = le-trans (least-le (classOf j) (lowerOf s row j)) (le-trans (lower-by (eqb j permanentEarth) (lowOf s) (factorOf s row j)) (limit j))
 
 -- for factors up to F and effects up to m
 module _ (F m : ℕ) (s : Settings) (row : ℕ) (limit : (k : ℕ) → factorOf s row k ≤ F) (kind : ℕ → ℕ) (e : ℕ → ℤ) (small : (k : ℕ) → natAbs (e k) ≤ m) where
@@ -57,3 +87,21 @@ module _ (s : Settings) (kind : ℕ → ℕ) (e : ℕ → ℤ) where
         ap natAbs (best-some s (λ row. rowMaximum s row kind e) .1),
         maximum-most 2000 effectMost s (governingOf s kind e .row) (factor-le s (governingOf s kind e .row)) kind e small,
       )
+
+-- weighed effects of a station in range are in range
+pub weighed-most : (effects : List ℤ) (w : Weights) → EffectsInRange effects → WeightsInRange w → (k : ℕ) → natAbs (weighed w (effectOf effects) k) ≤ effectMost
+weighed-most effects w r i k =
+    let n = effectOf effects k 0 in
+    let y = effectOf effects k 1 in
+    let z = effectOf effects k 2 in
+    omega (
+      arith,
+      abs-add (w .n *ℤ n +ℤ w .y *ℤ y) (w .z *ℤ z),
+      abs-add (w .n *ℤ n) (w .y *ℤ y),
+      abs-mul (w .n) n,
+      abs-mul (w .y) y,
+      abs-mul (w .z) z,
+      mul-le-mul (i .n) (r .range (k * 3 + 0)),
+      mul-le-mul (i .y) (r .range (k * 3 + 1)),
+      mul-le-mul (i .z) (r .range (k * 3 + 2)),
+    )

@@ -1,18 +1,20 @@
--- The weights of one component and of a pattern of signs are in range, the former leave the component, and products of two capacities fit.
+-- The weights of a pattern of signs are in range, and a pattern is a direction or the opposite of one.
 -- Assumes nothing.
 use Prim.Native.Nat.{ℕ, zero, suc, _+_, _*_, _<_, _≤_, _^_}
 use native.Mathlib.Nat.{mul-le-mul}
 use native.Mathlib.Omega.{arith}
-use mathlib.Core.Bool.{Bool, true, false, cond}
-use mathlib.Core.Path.{_≡_, refl, ap, _∙_}
+use mathlib.Core.Bool.{Bool, true, false, not, cond}
+use mathlib.Core.Path.{_≡_, refl, sym, ap, _∙_}
 use lib.Dec.{eqb}
-use lib.IntN.{ℤ, pos, _+ℤ_, _*ℤ_, natAbs, +ℤ-idl, +ℤ-idr, zero-*ℤ}
-use Rattle.integers.proofs.Signs.{abs-negated}
+use lib.IntN.{ℤ, pos, negℤ, _+ℤ_, _*ℤ_, natAbs, negℤ-negℤ}
+use Rattle.integers.specs.Sums.{up, down}
+use Rattle.integers.proofs.Linear.{product-up, product-down}
+use Rattle.integers.proofs.Signs.{eq-in, add-parts, neg-up, neg-down, mul-up, mul-down, abs-negated}
 use Rattle.standard.specs.Combination.{bit}
 use Rattle.standard.specs.declared.Capacities.{Capacities}
-use Rattle.envelope.specs.Range.{CapacitiesInRange}
-use Rattle.envelope.specs.Envelope.{weighed, unitOf, signedBy, patternOf}
-use Rattle.envelope.specs.Sums.{WeightsInRange, weightMost}
+use Rattle.envelope.specs.Range.{CapacitiesInRange, WeightsInRange, weightMost}
+use Rattle.envelope.specs.Envelope.{weighed, signedBy, patternOf}
+use Rattle.envelope.specs.Directions.{turned, signsBy}
 
 -- a sign leaves the size
 signed-size : (t : Bool) (x : ℕ) → natAbs (signedBy t x) ≡ x
@@ -31,45 +33,72 @@ pattern-in-range p i r =
       z = signed-most (bit i 2) (p .n) (p .y) (r .n-most) (r .y-most);
     }
 
-within-one : (n y z : ℤ) → natAbs n + natAbs y + natAbs z ≤ 1 → WeightsInRange (record { n = n; y = y; z = z })
-within-one n y z h = record { n = omega arith; y = omega arith; z = omega arith }
+-- ---- a pattern's weighed effects, from those of the pattern without signs
+turns : (t : Bool) (w : ℕ) (x : ℤ) → signedBy t w *ℤ x ≡ turned t (pos w *ℤ x)
+turns true w x =
+    eq-in (negℤ (pos w) *ℤ x) (negℤ (pos w *ℤ x))
+    (omega (
+      arith,
+      product-up (negℤ (pos w)) x,
+      product-down (negℤ (pos w)) x,
+      neg-up (pos w *ℤ x),
+      neg-down (pos w *ℤ x),
+      mul-up w x,
+      mul-down w x,
+      ap (λ (n : ℕ). n * up x) (neg-up (pos w)),
+      ap (λ (n : ℕ). n * down x) (neg-up (pos w)),
+      ap (λ (n : ℕ). n * up x) (neg-down (pos w)),
+      ap (λ (n : ℕ). n * down x) (neg-down (pos w)),
+    ))
+turns false w x = refl
 
--- whichever component the two tests pick
-one-in-range : (first second : Bool) (sign : ℤ) → natAbs sign ≤ 1 →
-    WeightsInRange (cond first (record { n = sign; y = pos 0; z = pos 0 }) (cond second (record { n = pos 0; y = sign; z = pos 0 }) (record { n = pos 0; y = pos 0; z = sign })))
-one-in-range true second sign h = within-one sign (pos 0) (pos 0) (omega arith)
-one-in-range false true sign h = within-one (pos 0) sign (pos 0) (omega arith)
-one-in-range false false sign h = within-one (pos 0) (pos 0) sign (omega arith)
+grouped : (a b c : ℤ) → a +ℤ b +ℤ c ≡ a +ℤ (b +ℤ c)
+grouped a b c = eq-in (a +ℤ b +ℤ c) (a +ℤ (b +ℤ c)) (omega (arith, add-parts (a +ℤ b) c, add-parts a b, add-parts a (b +ℤ c), add-parts b c))
 
-pub unit-in-range : (j : ℕ) (sign : ℤ) → natAbs sign ≤ 1 → WeightsInRange (unitOf j sign)
-unfolding unitOf
-unit-in-range j sign h = one-in-range (eqb j 0) (eqb j 1) sign h
+negated-sum : (a b c : ℤ) → negℤ a +ℤ (negℤ b +ℤ negℤ c) ≡ negℤ (a +ℤ (b +ℤ c))
+negated-sum a b c =
+    eq-in (negℤ a +ℤ (negℤ b +ℤ negℤ c)) (negℤ (a +ℤ (b +ℤ c)))
+    (omega (
+      arith,
+      add-parts (negℤ a) (negℤ b +ℤ negℤ c),
+      add-parts (negℤ b) (negℤ c),
+      neg-up a,
+      neg-down a,
+      neg-up b,
+      neg-down b,
+      neg-up c,
+      neg-down c,
+      neg-up (a +ℤ (b +ℤ c)),
+      neg-down (a +ℤ (b +ℤ c)),
+      add-parts a (b +ℤ c),
+      add-parts b c,
+    ))
 
--- an effect at weight zero adds nothing
-nothing-after : (x a : ℤ) → x +ℤ pos 0 *ℤ a ≡ x
-nothing-after x a = ap (λ (y : ℤ). x +ℤ y) (zero-*ℤ a) ∙ +ℤ-idr x
+turned-not : (t : Bool) (x : ℤ) → turned (not t) x ≡ negℤ (turned t x)
+turned-not true x = sym (negℤ-negℤ x)
+turned-not false x = refl
 
-nothing-before : (x a : ℤ) → pos 0 *ℤ a +ℤ x ≡ x
-nothing-before x a = ap (λ (y : ℤ). y +ℤ x) (zero-*ℤ a) ∙ +ℤ-idl x
+module _ (p : Capacities) (effect : ℕ → ℕ → ℤ) (k : ℕ) where
+  -- the weighed effects of a pattern with given signs
+  by-signs : (i : ℕ) (a b c : Bool) → bit i 0 ≡ a → bit i 1 ≡ b → bit i 2 ≡ c →
+      weighed (patternOf p i) effect k ≡ turned a (pos (p .y * p .z) *ℤ effect k 0) +ℤ (turned b (pos (p .n * p .z) *ℤ effect k 1) +ℤ turned c (pos (p .n * p .y) *ℤ effect k 2))
+  unfolding patternOf
+  by-signs i a b c ea eb ec =
+      (λ j. (ap (λ (t : Bool). signedBy t (p .y * p .z) *ℤ effect k 0) ea ∙ turns a (p .y * p .z) (effect k 0)) j
+      +ℤ (ap (λ (t : Bool). signedBy t (p .n * p .z) *ℤ effect k 1) eb ∙ turns b (p .n * p .z) (effect k 1)) j
+      +ℤ (ap (λ (t : Bool). signedBy t (p .n * p .y) *ℤ effect k 2) ec ∙ turns c (p .n * p .y) (effect k 2)) j)
+      ∙ grouped (turned a (pos (p .y * p .z) *ℤ effect k 0)) (turned b (pos (p .n * p .z) *ℤ effect k 1)) (turned c (pos (p .n * p .y) *ℤ effect k 2))
 
-pub unit-weighed : (effect : ℕ → ℕ → ℤ) (j k : ℕ) (sign : ℤ) → j < 3 → weighed (unitOf j sign) effect k ≡ sign *ℤ effect k j
-unfolding unitOf
-unit-weighed effect zero k sign h =
-    let x = sign *ℤ effect k 0 in
-    nothing-after (x +ℤ pos 0 *ℤ effect k 1) (effect k 2) ∙ nothing-after x (effect k 1)
-unit-weighed effect (suc zero) k sign h =
-    let x = sign *ℤ effect k 1 in
-    nothing-after (pos 0 *ℤ effect k 0 +ℤ x) (effect k 2) ∙ nothing-before x (effect k 0)
-unit-weighed effect (suc (suc zero)) k sign h =
-    let x = sign *ℤ effect k 2 in
-    ap (λ (y : ℤ). y +ℤ x) (nothing-after (pos 0 *ℤ effect k 0) (effect k 1)) ∙ nothing-before x (effect k 0)
-unit-weighed effect (suc (suc (suc j))) k sign h = absurd (omega arith)
+  pub pattern-directed : (i : ℕ) (a b : Bool) → bit i 0 ≡ a → bit i 1 ≡ b → bit i 2 ≡ false →
+      signsBy a b (patternOf p 0 .n *ℤ effect k 0) (patternOf p 0 .y *ℤ effect k 1) (patternOf p 0 .z *ℤ effect k 2) ≡ weighed (patternOf p i) effect k
+  unfolding patternOf
+  pattern-directed i a b ea eb ec = sym (by-signs i a b false ea eb ec)
 
--- capacities as the machine holds them, in 16 bits: their products fit
-pub record Held (p : Capacities) : Type 0 where
-  pub n : p .n < 2 ^ 16
-  pub y : p .y < 2 ^ 16
-  pub z : p .z < 2 ^ 16
-
-pub product-fits : {a b : ℕ} → a < 2 ^ 16 → b < 2 ^ 16 → a * b < 2 ^ 32
-product-fits {a} {b} h k = let l : a ≤ 65535 = omega arith in let m : b ≤ 65535 = omega arith in omega (arith, mul-le-mul l m)
+  -- the pattern with the opposite signs
+  pub pattern-opposed : (i : ℕ) (a b : Bool) → bit i 0 ≡ not a → bit i 1 ≡ not b → bit i 2 ≡ true →
+      negℤ (signsBy a b (patternOf p 0 .n *ℤ effect k 0) (patternOf p 0 .y *ℤ effect k 1) (patternOf p 0 .z *ℤ effect k 2)) ≡ weighed (patternOf p i) effect k
+  unfolding patternOf
+  pattern-opposed i a b ea eb ec =
+      sym (by-signs i (not a) (not b) true ea eb ec
+      ∙ (λ j. turned-not a (pos (p .y * p .z) *ℤ effect k 0) j +ℤ (turned-not b (pos (p .n * p .z) *ℤ effect k 1) j +ℤ negℤ (pos (p .n * p .y) *ℤ effect k 2)))
+      ∙ negated-sum (turned a (pos (p .y * p .z) *ℤ effect k 0)) (turned b (pos (p .n * p .z) *ℤ effect k 1)) (pos (p .n * p .y) *ℤ effect k 2))

@@ -19,9 +19,12 @@ use Rattle.envelope.specs.declared.Peak.{Peak}
 use Rattle.envelope.specs.declared.Utilised.{Utilised}
 use Rattle.envelope.specs.declared.Weights.{Weights}
 
+abbrev pub bestAt : ℕ → ℤ → Best
+bestAt row value = record { row = row; value = value }
+
 -- the better of the row held and another
 abbrev pub betterBy : Best → ℕ → ℤ → Best
-betterBy b row value = cond (ltZ (b .value) value) (record { row = row; value = value }) b
+betterBy b row value = cond (ltZ (b .value) value) (bestAt row value) b
 
 -- the best of the row held and n rows from a number on, by their values v
 unfoldable pub bestFrom : (ℕ → ℤ) → Best → ℕ → ℕ → Best
@@ -36,9 +39,13 @@ bestIn v b p = bestFrom v b (p .from) (p .to - p .from)
 abbrev pub laterOf : Span → Span
 laterOf p = span (p .from + 1) (p .to)
 
+-- the flood rows of a method, by zone
+abbrev pub byZone : Settings → Span → Span → Span
+byZone s one two = cond (eqb (s .zone) 1) one (cond (eqb (s .zone) 2) two (span 0 0))
+
 -- over the plain rows and then the flood rows
 unfoldable pub bestOf : Settings → (ℕ → ℤ) → Best
-bestOf s v = bestIn v (bestIn v (record { row = plainRows s .from; value = v (plainRows s .from) }) (laterOf (plainRows s))) (floodRows s)
+bestOf s v = bestIn v (bestIn v (bestAt (plainRows s .from) (v (plainRows s .from))) (laterOf (plainRows s))) (floodRows s)
 
 unfoldable pub governingOf : Settings → (ℕ → ℕ) → (ℕ → ℤ) → Best
 governingOf s kind e = bestOf s (λ row. rowMaximum s row kind e)
@@ -61,10 +68,6 @@ extremesOf s kind effect = record { maximum = extremeOf s kind effect; minimum =
 -- a case's three effects, weighed
 abbrev pub weighed : Weights → (ℕ → ℕ → ℤ) → ℕ → ℤ
 weighed w effect k = w .n *ℤ effect k 0 +ℤ w .y *ℤ effect k 1 +ℤ w .z *ℤ effect k 2
-
--- the weights that leave one component, times a sign
-unfoldable pub unitOf : ℕ → ℤ → Weights
-unitOf j sign = cond (eqb j 0) (record { n = sign; y = pos 0; z = pos 0 }) (cond (eqb j 1) (record { n = pos 0; y = sign; z = pos 0 }) (record { n = pos 0; y = pos 0; z = sign }))
 
 abbrev pub signedBy : Bool → ℕ → ℤ
 signedBy t x = cond t (negℤ (pos x)) (pos x)

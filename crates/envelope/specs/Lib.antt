@@ -1,3 +1,4 @@
 pub mod Range
 pub mod Envelope
-pub mod Sums
+pub mod Directions
+pub mod Places

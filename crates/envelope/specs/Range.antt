@@ -5,6 +5,7 @@ use mathlib.Core.Path.{_≡_}
 use lib.ListN.{length, getD}
 use lib.IntN.{ℤ, pos, natAbs}
 use Rattle.standard.specs.declared.Capacities.{Capacities}
+use Rattle.envelope.specs.declared.Weights.{Weights}
 
 -- the kind of a case, 0 for an empty place, and its effect on a component; both are 0 past the last case
 abbrev pub kindOf : List ℕ → ℕ → ℕ
@@ -24,6 +25,15 @@ pub record StationInRange (kinds : List ℕ) (effects : List ℤ) : Type 0 where
   pub kinds-range : (k : ℕ) → getD kinds k 0 ≤ 11
   pub effects-range : (i : ℕ) → natAbs (getD effects i (pos 0)) ≤ 10000
 
+-- either by itself
+pub record KindsInRange (kinds : List ℕ) : Type 0 where
+  pub long : length kinds ≡ 32
+  pub range : (k : ℕ) → getD kinds k 0 ≤ 11
+
+pub record EffectsInRange (effects : List ℤ) : Type 0 where
+  pub long : length effects ≡ 96
+  pub range : (i : ℕ) → natAbs (getD effects i (pos 0)) ≤ 10000
+
 pub record CapacitiesInRange (p : Capacities) : Type 0 where
   pub n-least : 1 ≤ p .n
   pub n-most : p .n ≤ 10000
@@ -31,3 +41,16 @@ pub record CapacitiesInRange (p : Capacities) : Type 0 where
   pub y-most : p .y ≤ 10000
   pub z-least : 1 ≤ p .z
   pub z-most : p .z ≤ 10000
+
+-- products of two capacities, with a sign
+abbrev pub weightMost : ℕ
+weightMost = 100000000
+
+pub record WeightsInRange (w : Weights) : Type 0 where
+  pub n : natAbs (w .n) ≤ weightMost
+  pub y : natAbs (w .y) ≤ weightMost
+  pub z : natAbs (w .z) ≤ weightMost
+
+-- the greatest weighed effect of a case: three effects of 10,000 at such weights
+abbrev pub effectMost : ℕ
+effectMost = 3000000000000

@@ -4,3 +4,5 @@ pub mod Machine
 pub mod Sums
 pub mod Masks
 pub mod Linear
+pub mod Walks
+pub mod Folds

@@ -58,9 +58,6 @@ left-commutes a b c =
 pub minus-one : (x : ℤ) → negsuc 0 *ℤ x ≡ negℤ x
 minus-one x = eq-in (negsuc 0 *ℤ x) (negℤ x) (omega (arith, product-up (negsuc 0) x, product-down (negsuc 0) x, neg-up x, neg-down x))
 
-pub times-one : (x : ℤ) → pos 1 *ℤ x ≡ x
-times-one x = eq-in (pos 1 *ℤ x) x (omega (arith, product-up (pos 1) x, product-down (pos 1) x))
-
 four : (a b c d : ℤ) → (a +ℤ b) +ℤ (c +ℤ d) ≡ (a +ℤ c) +ℤ (b +ℤ d)
 four a b c d =
     eq-in ((a +ℤ b) +ℤ (c +ℤ d)) ((a +ℤ c) +ℤ (b +ℤ d))

@@ -48,9 +48,6 @@ module _ (a w x : ℤ) (fw : SFits w64 w) (fx : SFits w64 x) (h : natAbs a + nat
 pub read : (z : ℤ) → mag z < 2 ^ 63 → toZ w64 (ofZ w64 z) ≡ z
 read z h = toZ-ofZ w64 z (record { sfits = h })
 
-pub read-sum : (r a b : ℤ) → mag a < 2 ^ 63 → mag b < 2 ^ 63 → r ≡ toZ w64 (ofZ w64 a) +ℤ toZ w64 (ofZ w64 b) → r ≡ a +ℤ b
-read-sum r a b h k e = rw (read a h, read b k) at e
-
 pub read-test : (a b : ℤ) (t : Bool) → mag a < 2 ^ 63 → mag b < 2 ^ 63 → ltZ (toZ w64 (ofZ w64 a)) (toZ w64 (ofZ w64 b)) ≡ t → ltZ a b ≡ t
 read-test a b t h k e = rw (read a h, read b k) at e
 

@@ -31,7 +31,7 @@ bit-below true m k j =
     ∙ omega (arith, NatL.pow-suc 2 j)
 bit-below false m k j = ap (λ (x : ℕ). x / 2 ^ k % 2) (NatL.add-zero m)
 
-bit-in-mask : (n : ℕ) (p : ℕ → Bool) (k : ℕ) → k < n → eqb (maskOf n p / 2 ^ k % 2) 1 ≡ p k
+pub bit-in-mask : (n : ℕ) (p : ℕ → Bool) (k : ℕ) → k < n → eqb (maskOf n p / 2 ^ k % 2) 1 ≡ p k
 unfolding maskOf sum
 bit-in-mask zero p k h = absurd (omega arith)
 bit-in-mask (suc n) p k h = go (ℕ-discrete n k) (bit-in-mask n p k)

@@ -2,6 +2,7 @@ ghost use mathlib.Core.Path.{_≡_};
 ghost use Prim.Native.Nat.{ℕ, _+_, _*_, _<_, _≤_, _^_, max};
 ghost use lib.IntN.{ℤ, pos, negℤ, _+ℤ_, _*ℤ_, natAbs};
 ghost use Rattle.integers.specs.Sums.{up, down};
+ghost use Rattle.integers.specs.Sets.{Lowest, WithoutLowest};
 
 // acc + w * x, where all of it fits.
 pub fn scaled(acc: i64, w: i64, x: i64) -> i64
@@ -42,11 +43,12 @@ pub fn above_zero(x: i64) -> i64
     if 0 < x { x } else { 0 }
 }
 
-// The part below zero, with its sign.
+// The part below zero, with its sign. By a difference, so that no test of the sign is left.
 pub fn below_zero(x: i64) -> i64
+    requires { ⌜ natAbs x < 2 ^ 63 ⌝ }
     ensures { λ r. ⌜ r ≡ negℤ (pos (down x)) ⌝ }
 {
-    if x < 0 { x } else { 0 }
+    x - above_zero(x)
 }
 
 // The greater of a number that is not negative and another.
@@ -55,6 +57,22 @@ pub fn greater(a: i64, b: i64) -> i64
     ensures { λ r. ⌜ r ≡ pos (max (up a) (up b)) ⌝ }
 {
     if a < b { b } else { a }
+}
+
+// The lesser of a number that is not positive and another.
+pub fn lesser(a: i64, b: i64) -> i64
+    requires { ⌜ a ≡ negℤ (pos (down a)) ⌝ }
+    ensures { λ r. ⌜ r ≡ negℤ (pos (max (down a) (down b))) ⌝ }
+{
+    if b < a { b } else { a }
+}
+
+// A number that is not negative, without its sign.
+pub fn unsigned(x: i64) -> u64
+    requires { ⌜ (x ≡ pos (up x)) × (natAbs x < 2 ^ 63) ⌝ }
+    ensures { λ r. ⌜ r ≡ up x ⌝ }
+{
+    x as u64
 }
 
 pub fn widen(x: i16) -> i64
@@ -68,4 +86,28 @@ pub fn signed(x: u64) -> i64
     ensures { λ r. ⌜ r ≡ pos x ⌝ }
 {
     x as i64
+}
+
+// The lowest number in a set that is not empty.
+pub fn lowest(set: u64) -> usize
+    requires { ⌜ 0 < set ⌝ }
+    ensures { λ r. ⌜ Lowest set r ⌝ }
+{
+    u64::trailing_zeros(set) as usize
+}
+
+// The set without its lowest number.
+pub fn without_lowest(set: u64) -> u64
+    requires { ⌜ 0 < set ⌝ }
+    ensures { λ r. ⌜ WithoutLowest set r ⌝ }
+{
+    set & (set - 1)
+}
+
+// The set that holds k alone.
+pub fn alone(k: usize) -> u64
+    requires { ⌜ k < 64 ⌝ }
+    ensures { λ r. ⌜ r ≡ 2 ^ k ⌝ }
+{
+    1 << k
 }

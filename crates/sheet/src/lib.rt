@@ -479,7 +479,7 @@ impl Rest {
             let t = station as usize;
             let from = t * 96;
             let to = from + 96;
-            let x = envelope::extremes_of(
+            let x = station::extremes_of(
                 self.settings,
                 &kinds,
                 &effects[from..to],
@@ -509,7 +509,7 @@ impl Rest {
                 y: capacities[at + 1],
                 z: capacities[at + 2],
             };
-            let x = envelope::utilisation_of(self.settings, &kinds, &effects[from..to], p);
+            let x = station::utilisation_of(self.settings, &kinds, &effects[from..to], p);
             return Answer::Utilisation(x);
         }
         Answer::Refused(due)

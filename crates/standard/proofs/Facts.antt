@@ -1,19 +1,25 @@
 -- Facts of every row, kind and setting, each by one test that antt computes over the whole list of lines or of classes.
 -- Assumes nothing.
-use mathlib.Core.Path.{_≡_, subst}
-use mathlib.Core.Bool.{Bool, true, false, cond}
+use mathlib.Core.List.{List, [], _∷_, map}
+use mathlib.Core.Path.{_≡_, refl, ap, _∙_, subst}
+use mathlib.Core.Bool.{Bool, true, false, cond, _||_}
 use mathlib.Core.Logic.{_⊎_, inl, inr}
 use Prim.Native.Nat.{ℕ, zero, suc, _≤_, _<_}
 use native.Mathlib.Omega.{arith}
 use lib.Dec.{T, eqb, leb, ltb, leb→le, ltb→lt, eqb→eq}
 use lib.ListN.{getD}
+use Rattle.integers.specs.Sums.{sum, maskOf}
+use Rattle.integers.specs.Sets.{has}
+use Rattle.integers.proofs.Masks.{bit-in-mask}
+use Rattle.integers.proofs.Tests.{or-cases}
 use Rattle.standard.specs.declared.Settings.{Settings}
 use Rattle.standard.specs.declared.Span.{Span}
 use Rattle.standard.specs.declared.Class.{Class}
 use Rattle.standard.specs.declared.Class.the-variants.{Always, Subset, OneOf, Unknown}
-use Rattle.standard.specs.Kinds.{classes, classOf, groups, permanentEarth}
-use Rattle.standard.specs.Rows.{Line, blank, lines, columns, rows, factorOf, lowOf, span, plainRows, floodRows}
-use Rattle.standard.proofs.Table.{all, all-at, all₂-at}
+use Rattle.standard.specs.Kinds.{classes, classOf, kinds, groups, permanentEarth}
+use Rattle.standard.specs.Rows.{Live, num, f, Line, blank, lines, liveFactor, roofFactor, snowFactor, columns, rows, factorOf, lowOf, span, plainRows, floodRows}
+use Rattle.standard.specs.Columns.{factoredKinds, kindsIn}
+use Rattle.standard.proofs.Table.{same-at, all, all-at, all₂, all₂-at}
 
 -- no factor of the line is above 2000
 small : Bool → Line → Bool
@@ -40,9 +46,6 @@ of-both P false x y p q = q
 low-le-900 : (s : Settings) → lowOf s ≤ 900
 unfolding lowOf
 low-le-900 s = of-both (λ x. x ≤ 900) (eqb (s .method) 1) 900 600 (omega arith) (omega arith)
-
-pub low-le : (s : Settings) → lowOf s ≤ 2000
-low-le s = omega (arith, low-le-900 s)
 
 -- a factor for earth is none, or no less than the greatest low factor
 earth-test : ℕ → Bool
@@ -110,3 +113,77 @@ pub plain-some : (s : Settings) → (s .method ≡ 1) ⊎ (s .method ≡ 2) → 
 unfolding plainRows
 plain-some s (inl e) = rw e (omega arith)
 plain-some s (inr e) = rw e (omega arith)
+
+-- ---- the kinds of a row
+getD-map : {A : Type 0} (q : A → ℕ) (xs : List A) (d : A) (k : ℕ) → getD (map q xs) k (q d) ≡ q (getD xs k d)
+getD-map q [] d k = refl
+getD-map q (x ∷ xs) d zero = refl
+getD-map q (x ∷ xs) d (suc k) = getD-map q xs d k
+
+-- the live option gives L another factor, and never takes it away
+live-stays : (l : Line) (halved : Bool) (k : ℕ) → k < kinds → ltb 0 (getD (columns false l) k 0) ≡ ltb 0 (getD (columns halved l) k 0)
+live-stays l false k h = refl
+live-stays l true k h =
+    same-at (λ j. ltb 0 (getD (columns false l) j 0)) (λ j. ltb 0 (getD (columns true l) j 0)) 0 12 k (λ i. ltb 0 0
+    ∷ ltb 0 (l .dead) ∷ ltb 0 (l .fluid) ∷ ltb 0 (l .earth) ∷ ltb 0 (l .earth)
+    ∷ stays (l .live) i
+    ∷ ltb 0 (roofFactor (l .roof)) ∷ ltb 0 (snowFactor (l .roof)) ∷ ltb 0 (roofFactor (l .roof))
+    ∷ ltb 0 (l .wind) ∷ ltb 0 (l .quake) ∷ ltb 0 (l .flood) ∷ []) (omega arith) (omega arith)
+  where
+    stays : (v : Live) → ltb 0 (liveFactor false v) ≡ ltb 0 (liveFactor true v)
+    stays (num x) = refl
+    stays f = refl
+
+blank-none : 0 ≡ factoredKinds blank
+unfolding maskOf sum
+blank-none = refl
+
+pub kind-in : (s : Settings) (r k : ℕ) → k < kinds → has (kindsIn r) k ≡ ltb 0 (factorOf s r k)
+unfolding kindsIn factorOf
+kind-in s r k h =
+    ap (λ (m : ℕ). has m k) (ap (λ (d : ℕ). getD (map factoredKinds lines) r d) blank-none ∙ getD-map factoredKinds lines blank r)
+    ∙ bit-in-mask kinds (λ j. ltb 0 (getD (columns false (getD lines r blank)) j 0)) k h
+    ∙ live-stays (getD lines r blank) (eqb (s .live) 1) k h
+
+-- the kinds of a group that have a factor in a row have the same one
+groupFactor : Line → ℕ → ℕ
+groupFactor l g = getD (snowFactor (l .roof) ∷ l .wind ∷ l .quake ∷ l .flood ∷ []) g 0
+
+shared-test : Line → Class → ℕ → Bool
+shared-test l Always x = true
+shared-test l Subset x = true
+shared-test l (OneOf g) x = eqb x 0 || eqb x (groupFactor l g)
+shared-test l Unknown x = true
+
+shared-line : Bool → Line → Bool
+shared-line halved l = all₂ (shared-test l) classes (columns halved l)
+
+shared-lines : (halved : Bool) → T (shared-line halved blank) × T (all (shared-line halved) lines)
+unfolding shared-line shared-test groupFactor
+shared-lines true = (tt, tt)
+shared-lines false = (tt, tt)
+
+pub sharedFactor : ℕ → ℕ → ℕ
+sharedFactor r g = groupFactor (getD lines r blank) g
+
+pub shared-factor : (s : Settings) (r k g : ℕ) → classOf k ≡ OneOf g → 0 < factorOf s r k → factorOf s r k ≡ sharedFactor r g
+unfolding classOf factorOf shared-line shared-test sharedFactor
+shared-factor s r k g c h = go (or-cases (eqb x 0) (eqb x (groupFactor l g)) test)
+  where
+    l : Line
+    l = getD lines r blank
+
+    halved : Bool
+    halved = eqb (s .live) 1
+
+    x : ℕ
+    x = factorOf s r k
+
+    test : T (shared-test l (OneOf g) x)
+    test =
+        subst (λ (q : Class). T (shared-test l q x)) c
+        (all₂-at (shared-test l) classes (columns halved l) Unknown 0 tt (all-at (shared-line halved) lines blank (shared-lines halved .0) (shared-lines halved .1) r) k)
+
+    go : T (eqb x 0) ⊎ T (eqb x (groupFactor l g)) → x ≡ groupFactor l g
+    go (inl t) = absurd (omega (arith, eqb→eq x 0 t))
+    go (inr t) = eqb→eq x (groupFactor l g) t

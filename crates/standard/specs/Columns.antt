@@ -3,7 +3,10 @@ use Prim.Native.Nat.{ℕ}
 use mathlib.Core.Bool.{Bool, true, false, cond}
 use mathlib.Core.List.{List, [], _∷_, map}
 use lib.ListN.{getD}
-use Rattle.standard.specs.Rows.{Line, lines, liveFactor, roofFactor, snowFactor}
+use lib.Dec.{ltb}
+use Rattle.integers.specs.Sums.{maskOf}
+use Rattle.standard.specs.Kinds.{kinds}
+use Rattle.standard.specs.Rows.{Line, lines, blank, columns, liveFactor, roofFactor, snowFactor}
 
 -- of each row the columns D, F, H, L, L with live option 1, roof, S, W, E, Fa
 abbrev pub entries : Line → List ℕ
@@ -23,3 +26,10 @@ kindColumns halved = 0 ∷ 0 ∷ 1 ∷ 2 ∷ 2 ∷ cond halved 4 3 ∷ 5 ∷ 6 �
 
 unfoldable pub columnOf : Bool → ℕ → ℕ
 columnOf halved kind = getD (kindColumns halved) kind 0
+
+-- the kinds that have a factor in a row, whatever the live option, as a set: bit j is kind j
+abbrev pub factoredKinds : Line → ℕ
+factoredKinds l = maskOf kinds (λ j. ltb 0 (getD (columns false l) j 0))
+
+unfoldable pub kindsIn : ℕ → ℕ
+kindsIn row = getD (map factoredKinds lines) row 0

@@ -1,10 +1,9 @@
 ghost use mathlib.Core.Path.{_≡_};
-ghost use mathlib.Core.Bool.{cond};
+ghost use mathlib.Core.Bool.{false};
 ghost use Prim.Native.Nat.{_<_};
-ghost use lib.Dec.{eqb};
 ghost use Rattle.standard.specs.Kinds.{classOf, kinds};
-ghost use Rattle.standard.specs.Rows.{rows, factorOf, lowOf, span, plainRows, floodRows};
-ghost use Rattle.standard.specs.Columns.{columnOf, rowTable};
+ghost use Rattle.standard.specs.Rows.{rows, factorOf, lowOf};
+ghost use Rattle.standard.specs.Columns.{columnOf, rowTable, kindsIn};
 
 // What a sheet sets for all its combinations.
 pub struct Settings {
@@ -94,15 +93,55 @@ const ROWS: RowTable = [
     [600, 0, 1000, 0, 0, 0, 0, 600, 0, 750],
 ];
 
-// The column of a kind, which for L goes by the live option.
-fn column(live: u8, kind: usize) -> usize
-    ensures { λ r. ⌜ r ≡ columnOf (eqb live 1) kind ⌝ }
+// By row: bit j where kind j has a factor.
+const ROW_KINDS: [u16; 41] = [
+    0,
+    6,
+    510,
+    510,
+    990,
+    1022,
+    1214,
+    538,
+    1054,
+    3070,
+    2586,
+    3070,
+    2586,
+    0,
+    0,
+    0,
+    0,
+    0,
+    0,
+    0,
+    0,
+    6,
+    62,
+    478,
+    510,
+    542,
+    1054,
+    1022,
+    1214,
+    538,
+    1054,
+    2590,
+    2078,
+    3070,
+    2238,
+    2586,
+    2590,
+    2078,
+    3070,
+    2238,
+    2586,
+];
+
+// The column of a kind; that of L is the one without the live option.
+fn column(kind: usize) -> usize
+    ensures { λ r. ⌜ r ≡ columnOf false kind ⌝ }
 {
-    if live == 1 {
-        if kind == 5 {
-            return 4;
-        }
-    }
     match kind {
         1..=3 => kind - 1,
         4..=5 => kind - 2,
@@ -120,13 +159,28 @@ pub fn row_table() -> RowTable
     ROWS
 }
 
-// The factor of a kind in a row.
+// The factor of a kind in a row. Both columns of L are read, so that a constant row and kind fold to constants.
 pub fn factor(table: &RowTable, s: Settings, row: usize, kind: usize) -> u16
     requires { ⌜ (row < rows) × (0 < kind) × (kind < kinds) × (now table ≡ rowTable) ⌝ }
     ensures { λ r. ⌜ r ≡ factorOf s row kind ⌝ }
 {
-    let c = column(s.live, kind);
-    table[row][c]
+    let c = column(kind);
+    let plain = table[row][c];
+    let halved = table[row][4];
+    if s.live == 1 {
+        if kind == 5 {
+            return halved;
+        }
+    }
+    plain
+}
+
+// The kinds that have a factor in a row, as a set: bit j is kind j.
+pub fn kinds_in(row: usize) -> u16
+    requires { ⌜ row < rows ⌝ }
+    ensures { λ r. ⌜ r ≡ kindsIn row ⌝ }
+{
+    ROW_KINDS[row]
 }
 
 // The low factor of Hp.
@@ -134,31 +188,4 @@ pub fn low_factor(s: Settings) -> u16
     ensures { λ r. ⌜ r ≡ lowOf s ⌝ }
 {
     if s.method == 1 { 900 } else { 600 }
-}
-
-// The first span for the number 1, the second for 2, no rows for another number.
-fn by_number(number: u8, one: Span, two: Span) -> Span
-    ensures { λ r. ⌜ r ≡ cond (eqb number 1) one (cond (eqb number 2) two (span 0 0)) ⌝ }
-{
-    match number {
-        1 => one,
-        2 => two,
-        _ => Span { from: 0, to: 0 },
-    }
-}
-
-// The rows that are open in every zone.
-pub fn plain_rows(s: Settings) -> Span
-    ensures { λ r. ⌜ r ≡ plainRows s ⌝ }
-{
-    by_number(s.method, Span { from: 1, to: 9 }, Span { from: 21, to: 31 })
-}
-
-// The flood rows that are open.
-pub fn flood_rows(s: Settings) -> Span
-    ensures { λ r. ⌜ r ≡ floodRows s ⌝ }
-{
-    let strength = by_number(s.zone, Span { from: 9, to: 11 }, Span { from: 11, to: 13 });
-    let allowable = by_number(s.zone, Span { from: 31, to: 36 }, Span { from: 36, to: 41 });
-    by_number(s.method, strength, allowable)
 }

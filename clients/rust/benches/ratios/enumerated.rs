@@ -9,9 +9,6 @@ use crate::by_hand::rows::ROWS;
 use crate::lists::{self, Random};
 use crate::measure::{head, interleave, lane, row, time, Clock};
 
-const D: usize = 1;
-const L: usize = 5;
-const W: usize = 9;
 const LOOKS: usize = 1_000;
 const CAPACITIES: [u16; 3] = [5_000, 2_000, 1_000];
 
@@ -54,19 +51,19 @@ impl<const C: usize> Bays<C> {
     /// The factored effects of every admissible combination: each row, each wind or none, each set of loaded bays.
     fn each(&self, mut visit: impl FnMut([i64; C])) {
         for f in &ROWS[1..9] {
-            let winds = if f[W] == 0 { 0 } else { self.winds.len() };
-            let sets = if f[L] == 0 {
+            let winds = if f.wind == 0 { 0 } else { self.winds.len() };
+            let sets = if f.live == 0 {
                 1
             } else {
                 1u32 << self.live.len()
             };
             for wind in 0..=winds {
-                let mut start = self.dead.map(|e| f[D] * e);
+                let mut start = self.dead.map(|e| f.dead * e);
                 if wind > 0 {
-                    add(&mut start, f[W], &self.winds[wind - 1]);
+                    add(&mut start, f.wind, &self.winds[wind - 1]);
                 }
                 for set in 0..sets {
-                    visit(self.loaded(start, f[L], set));
+                    visit(self.loaded(start, f.live, set));
                 }
             }
         }

@@ -1,6 +1,8 @@
 //! States and lists of fields to measure on, the same in every run.
 
-use frames::{Answer, Capacities, Component, Effects, Field, Kind, Refusal, Settings, Sheet};
+use frames::{
+    Capacities, Component, Effects, Field, Kind, LiveOption, Method, Settings, Sheet, Zone,
+};
 
 /// A generator of numbers (xorshift) from a fixed seed.
 pub struct Random(u64);
@@ -47,6 +49,21 @@ pub const KINDS: [Kind; 11] = [
     Kind::EarthOther,
     Kind::Fluid,
     Kind::Rain,
+    Kind::Flood,
+];
+
+/// By number, from 1.
+const NUMBERED: [Kind; 11] = [
+    Kind::Dead,
+    Kind::Fluid,
+    Kind::EarthPermanent,
+    Kind::EarthOther,
+    Kind::Live,
+    Kind::RoofLive,
+    Kind::Snow,
+    Kind::Rain,
+    Kind::Wind,
+    Kind::Earthquake,
     Kind::Flood,
 ];
 
@@ -202,13 +219,67 @@ pub fn with_refusals(count: usize, seed: u64) -> Vec<u8> {
     bytes
 }
 
-/// The numbers of the refusals among answers.
-pub fn refusals(mut answers: &[u8]) -> impl Iterator<Item = u8> + '_ {
-    std::iter::from_fn(move || {
-        let (answer, rest) = Answer::decode(answers)?;
-        answers = rest;
-        Some(answer)
+/// A sheet of zone 1 whose filled places hold the kinds in turn, D first, with effects and capacities at every station.
+pub fn kinds_in_turn(method: u8, places: u8) -> Sheet {
+    let mut random = Random::new(5);
+    let mut sheet = Sheet::new(Settings {
+        method: match method {
+            1 => Method::Strength,
+            _ => Method::Allowable,
+        },
+        live: LiveOption::Full,
+        zone: Zone::Coastal,
+    });
+    let mut fields = Vec::new();
+    for case in 0..places {
+        let kind = NUMBERED[usize::from(case) % 11];
+        fields.push(Field::AddCase { case, kind });
+        fields.extend((0..16).map(|station| Field::SetEffects {
+            case,
+            station,
+            effects: random.effects(),
+        }));
+    }
+    let mut one = || 5_000 + random.below(5_001) as u16;
+    fields.extend((0..16).map(|station| Field::SetCapacities {
+        station,
+        capacities: Capacities {
+            n: one(),
+            my: one(),
+            mz: one(),
+        },
+    }));
+    sheet.run(&fields);
+    sheet
+}
+
+/// Fields of one tag, or of two in turn, over the places, stations and components.
+pub fn in_turn(tags: &str, places: u8) -> impl Iterator<Item = Field> + '_ {
+    (0..).map(move |i: usize| {
+        let station = (i % 16) as u8;
+        let case = (i % usize::from(places)) as u8;
+        let pair = (i / 2 % usize::from(places)) as u8;
+        match (tags, i % 2) {
+            ("03", _) => Field::SetEffects {
+                case,
+                station,
+                effects: Effects {
+                    n: (i % 100) as i16,
+                    my: -((i % 77) as i16),
+                    mz: (i % 55) as i16,
+                },
+            },
+            ("02/04", 0) => Field::DropCase { case: pair },
+            ("02/04", _) => Field::AddCase {
+                case: pair,
+                kind: NUMBERED[usize::from(pair) % 11],
+            },
+            ("06", _) => Field::Extremes {
+                station,
+                component: COMPONENTS[i % 3],
+            },
+            ("07", _) => Field::Utilisation { station },
+            _ => panic!("no list of {tags}"),
+        }
     })
-    .filter_map(|answer| answer.accepted().err())
-    .map(Refusal::number)
 }

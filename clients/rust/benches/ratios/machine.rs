@@ -23,7 +23,6 @@ pub fn report() {
     for line in lines {
         println!("- {line}");
     }
-    println!();
 }
 
 fn cpu() -> String {

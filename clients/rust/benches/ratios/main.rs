@@ -1,10 +1,14 @@
 //! The proved library and the service against code written by hand, in ratios. `cargo bench --bench ratios` prints Markdown.
 //!
-//! An argument runs one part: library, typed, enumerated, piped, aged or memory.
+//! An argument runs one part: library, instructions, typed, enumerated, piped, aged or memory. The program fails where the two give
+//! different bytes, and where the library passes a bound on its instructions.
 
 mod aged;
+mod agreement;
+mod bounds;
 mod by_hand;
 mod enumerated;
+mod instructions;
 mod library;
 mod lists;
 mod machine;
@@ -13,27 +17,53 @@ mod piped;
 mod service;
 mod typed;
 
-const PARTS: [(&str, fn()); 6] = [
-    ("library", library::report),
-    ("typed", typed::report),
-    ("enumerated", enumerated::report),
-    ("piped", piped::report),
-    ("aged", aged::report),
-    ("memory", piped::memory),
+use std::process::ExitCode;
+
+enum Part {
+    Report(fn()),
+    /// One that gives whether it passed.
+    Test(fn() -> bool),
+}
+
+use Part::{Report, Test};
+
+const PARTS: [(&str, Part); 7] = [
+    ("library", Report(library::report)),
+    ("instructions", Test(instructions::report)),
+    ("typed", Report(typed::report)),
+    ("enumerated", Report(enumerated::report)),
+    ("piped", Report(piped::report)),
+    ("aged", Report(aged::report)),
+    ("memory", Report(piped::memory)),
 ];
 
-fn main() -> std::io::Result<()> {
-    let arguments: Vec<String> = std::env::args().collect();
-    let asked = |name: &str| arguments.iter().any(|argument| argument == name);
-    if asked("--serve") {
-        return by_hand::serve();
+fn main() -> ExitCode {
+    let arguments: Vec<String> = std::env::args().skip(1).collect();
+    match arguments.first().map(String::as_str) {
+        Some(by_hand::SERVE) => by_hand::serve().expect("pipes"),
+        Some(instructions::COUNTED) => instructions::run(&arguments[1..]),
+        _ => return report(&arguments),
     }
+    ExitCode::SUCCESS
+}
+
+fn report(arguments: &[String]) -> ExitCode {
+    let asked = |name: &str| arguments.iter().any(|argument| argument == name);
     let all = !PARTS.iter().any(|(name, _)| asked(name));
+    let mut passed = true;
     machine::report();
-    for (name, report) in PARTS {
-        if all || asked(name) {
-            report();
+    agreement::report();
+    println!();
+    for (name, part) in PARTS {
+        match part {
+            _ if !all && !asked(name) => {}
+            Report(report) => report(),
+            Test(test) => passed &= test(),
         }
     }
-    Ok(())
+    if passed {
+        return ExitCode::SUCCESS;
+    }
+    println!("FAILED: a test above did not pass.");
+    ExitCode::FAILURE
 }

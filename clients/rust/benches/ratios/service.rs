@@ -1,4 +1,4 @@
-//! A service behind two pipes: the proved program, or this one run again with `--serve`.
+//! A service behind two pipes: the proved program, or this one run again to serve by hand.
 
 use std::env;
 use std::io::{Read, Write};
@@ -39,7 +39,7 @@ impl Service {
 
     pub fn by_hand() -> Service {
         let mut command = Command::new(env::current_exe().expect("the path of this program"));
-        command.arg("--serve");
+        command.arg(by_hand::SERVE);
         Service::start(command)
     }
 

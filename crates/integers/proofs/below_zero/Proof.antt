@@ -1,36 +1,42 @@
--- The test tells which part is zero, and the number read back is the number.
+-- A number less its part above zero is its part below.
 -- Assumes nothing.
+use borrow.Author.Needs.{needs}
+use Prim.Native.Nat.{_<_, _^_}
 use native.Mathlib.Omega.{arith}
-use mathlib.Core.Bool.{true, false}
-use mathlib.Core.Path.{_∙_}
-use lib.IntN.{pos, negℤ}
-use Rattle.integers.specs.Sums.{down}
-use Rattle.integers.proofs.Machine.{read, read-test}
-use Rattle.integers.proofs.Signs.{eq-in, one-part, neg-up, neg-down, less-parts, not-less-parts}
+use mathlib.Core.Path.{_≡_, sym, ap, _∙_, subst}
+use lib.IntN.{ℤ, pos, negℤ, _+ℤ_, _-ℤ_, natAbs}
+use mir.Syntax.{w64}
+use mir.Val.{toZ, ofZ, SFits}
+use Rattle.integers.specs.Sums.{up, down}
+use Rattle.integers.proofs.Machine.{small, back, read}
+use Rattle.integers.proofs.Signs.{eq-in, add-parts, neg-up, neg-down, abs-parts, abs-negated}
 use Rattle.integers.proofs.below_zero.Statement.{statement}
 use Rattle.integers.proofs.below_zero.Tie as tie
 
-returns : tie.Need-returns
-returns c =
-    let x = c .before .args .x in
-    let fits = c .before .fits .x .sfits in
+less-above : (x : ℤ) → x -ℤ pos (up x) ≡ negℤ (pos (down x))
+less-above x =
+    let u = pos (up x) in
     let d = pos (down x) in
-    read x fits
-    ∙ eq-in x (negℤ d)
-    (omega (arith, one-part x, neg-up d, neg-down d, less-parts x (pos 0) (read-test x (pos 0) true fits (omega arith) (c .if1 .taken))))
+    eq-in (x -ℤ u) (negℤ d) (omega (arith, add-parts x (negℤ u), neg-up u, neg-down u, neg-up d, neg-down d))
 
-returns-2 : tie.Need-returns-2
-returns-2 c =
+above-zero-requires : tie.Need-above-zero-requires
+above-zero-requires c κs = search needs
+
+below-small : (c : tie.After-above-zero) → natAbs (negℤ (pos (down (c .before .args .x)))) < 2 ^ 63
+below-small c = let x = c .before .args .x in omega (arith, abs-negated (pos (down x)), abs-parts x, c .before .pre)
+
+-- the difference, as the machine reads both numbers back
+difference : (c : tie.After-above-zero) → let x = c .before .args .x in
+    toZ w64 (ofZ w64 x) -ℤ toZ w64 (ofZ w64 (c .above-zero .result)) ≡ negℤ (pos (down x))
+difference c =
     let x = c .before .args .x in
-    let d = pos (down x) in
-    eq-in (pos 0) (negℤ d)
-    (omega (
-      arith,
-      one-part x,
-      neg-up d,
-      neg-down d,
-      not-less-parts x (pos 0) (read-test x (pos 0) false (c .before .fits .x .sfits) (omega arith) (c .if1 .left)),
-    ))
+    (λ i. back x (c .before .pre) i -ℤ (read (c .above-zero .result) (c .above-zero .ok) ∙ c .above-zero .ensures ∙ ap (λ (z : ℤ). pos (up z)) (back x (c .before .pre))) i) ∙ less-above x
+
+sub-result : tie.Need-sub-result
+sub-result c = subst (SFits w64) (sym (difference c)) (small (negℤ (pos (down (c .before .args .x)))) (below-small c))
+
+returns : tie.Need-returns
+returns c = ap (λ (z : ℤ). toZ w64 (ofZ w64 z)) (difference c) ∙ back (negℤ (pos (down (c .before .args .x)))) (below-small c)
 
 pub below-zero-spec : {M : Type 1} → statement M
-below-zero-spec = tie.close (tie.spec returns returns-2)
+below-zero-spec = tie.close (tie.spec above-zero-requires sub-result returns)

@@ -1,62 +1,111 @@
--- The entry at a row and a kind's column is the kind's factor in the row.
+-- The entry at a row and a kind's column is the kind's factor in the row; the live option reaches L alone.
 -- Assumes nothing.
 use borrow.Author.Needs.{needs}
+use borrow.Author.Tests.{eq-eqb, ne-eqb}
 use Prim.Native.Nat.{ℕ, _<_}
 use native.Mathlib.Omega.{arith}
 use mathlib.Core.Bool.{Bool, true, false}
 use mathlib.Core.List.{List, []}
+use mathlib.Core.Logic.{_⊎_, inl, inr}
 use mathlib.Core.Path.{_≡_, refl, sym, ap, _∙_}
 use lib.Dec.{eqb, ltb, ltb→lt}
 use lib.ListN.{getD}
+use lib.Seq.{getD-set-other}
 use Rattle.standard.specs.declared.Settings.{Settings}
 use Rattle.standard.specs.Kinds.{kinds}
-use Rattle.standard.specs.Rows.{Line, lines, blank, rows, columns, factorOf}
+use Rattle.standard.specs.Rows.{Line, lines, blank, rows, columns, liveFactor, factorOf}
 use Rattle.standard.specs.Columns.{entries, rowTable, kindColumns, columnOf}
 use Rattle.standard.proofs.Table.{at, same-at, all-at}
 use Rattle.standard.proofs.factor.Statement.{statement}
 use Rattle.standard.proofs.factor.Tie as tie
 
-column-below : (t : Bool) (k : ℕ) → columnOf t k < 10
+column-below : (k : ℕ) → columnOf false k < 10
 unfolding columnOf
-column-below true k = ltb→lt _ _ (all-at (λ x. ltb x 10) (kindColumns true) 0 tt tt k)
-column-below false k = ltb→lt _ _ (all-at (λ x. ltb x 10) (kindColumns false) 0 tt tt k)
+column-below k = ltb→lt _ _ (all-at (λ x. ltb x 10) (kindColumns false) 0 tt tt k)
 
-in-column : (l : Line) (t : Bool) (k : ℕ) → 0 < k → k < kinds → getD (entries l) (columnOf t k) 0 ≡ getD (columns t l) k 0
+in-column : (l : Line) (k : ℕ) → 0 < k → k < kinds → getD (entries l) (columnOf false k) 0 ≡ getD (columns false l) k 0
 unfolding columnOf
-in-column l true k p h = same-at (λ j. getD (entries l) (columnOf true j) 0) (λ j. getD (columns true l) j 0) 1 11 k refl p h
-in-column l false k p h = same-at (λ j. getD (entries l) (columnOf false j) 0) (λ j. getD (columns false l) j 0) 1 11 k refl p h
+in-column l k p h = same-at (λ j. getD (entries l) (columnOf false j) 0) (λ j. getD (columns false l) j 0) 1 11 k refl p h
 
 row-entries : (r : ℕ) → r < rows → getD rowTable r [] ≡ entries (getD lines r blank)
 unfolding rowTable
 row-entries r h = at (λ i. entries (getD lines i blank)) [] rows r h
 
+-- where the option does not reach
+plain : (l : Line) (live k : ℕ) → (k ≡ 5 → ⊥) ⊎ (live ≡ 1 → ⊥) → getD (columns false l) k 0 ≡ getD (columns (eqb live 1) l) k 0
+plain l live k (inl n) = other (eqb live 1)
+  where
+    other : (t : Bool) → getD (columns false l) k 0 ≡ getD (columns t l) k 0
+    other true = sym (getD-set-other (columns false l) 5 k (liveFactor true (l .live)) 0 n)
+    other false = refl
+plain l live k (inr n) = ap (λ (t : Bool). getD (columns t l) k 0) (sym (ne-eqb live 1 n))
+
 column-requires : tie.Need-column-requires
 column-requires c κs = search needs
 
-mul-result : tie.Need-mul-result
-mul-result c = search needs
+mul-plain : tie.Need-mul-plain
+mul-plain c = search needs
 
 below : (c : tie.After-column) → c .column .result < 10
-below c = omega (arith, c .column .ensures, column-below (eqb (c .before .args .s .live) 1) (c .before .args .kind))
+below c = omega (arith, c .column .ensures, column-below (c .before .args .kind))
 
-mul-result-2 : tie.Need-mul-result-2
-mul-result-2 c = omega (arith, below c)
+mul-plain-2 : tie.Need-mul-plain-2
+mul-plain-2 c = omega (arith, below c)
 
-index-1-result : tie.Need-index-1-result
-index-1-result c = search needs
+index-1-plain : tie.Need-index-1-plain
+index-1-plain c = search needs
 
-index-2-result : tie.Need-index-2-result
-index-2-result c = below c
+index-2-plain : tie.Need-index-2-plain
+index-2-plain c = below c
+
+mul-halved : tie.Need-mul-halved
+mul-halved c = search needs
+
+index-1-halved : tie.Need-index-1-halved
+index-1-halved c = search needs
+
+index-2-halved : tie.Need-index-2-halved
+index-2-halved c = search needs
 
 returns : tie.Need-returns
 unfolding factorOf
 returns c =
-    let a = c .before .before .args in
-    let p = c .before .before .pre in
-    let t = eqb (a .s .live) 1 in
-    (λ i. getD (getD (p .3 i) (a .row) []) (c .before .column .ensures i) 0)
-    ∙ ap (λ (l : List ℕ). getD l (columnOf t (a .kind)) 0) (row-entries (a .row) (p .0))
-    ∙ in-column (getD lines (a .row) blank) t (a .kind) (p .1) (p .2)
+    let s = c .before .before .before .before .before .before in
+    let a = s .args in
+    (λ i. getD (getD (s .pre .3 i) (a .row) []) 4 0)
+    ∙ ap (λ (l : List ℕ). getD l 4 0) (row-entries (a .row) (s .pre .0))
+    ∙ sym (λ i. getD (columns (eq-eqb (a .s .live) 1 (c .before .if1 .taken) i) (getD lines (a .row) blank)) (c .if2 .taken i) 0)
+
+-- an entry of the plain columns
+entry : (c : tie.After-column) → let a = c .before .args in (a .kind ≡ 5 → ⊥) ⊎ (a .s .live ≡ 1 → ⊥) →
+    getD (getD (a .table .now) (a .row) []) (c .column .result) 0 ≡ factorOf (a .s) (a .row) (a .kind)
+unfolding factorOf
+entry c spared =
+    let a = c .before .args in
+    let p = c .before .pre in
+    (λ i. getD (getD (p .3 i) (a .row) []) (c .column .ensures i) 0)
+    ∙ ap (λ (l : List ℕ). getD l (columnOf false (a .kind)) 0) (row-entries (a .row) (p .0))
+    ∙ in-column (getD lines (a .row) blank) (a .kind) (p .1) (p .2)
+    ∙ plain (getD lines (a .row) blank) (a .s .live) (a .kind) spared
+
+returns-2 : tie.Need-returns-2
+returns-2 c = entry (c .before .before .before .before .before) (inl (c .if2 .left))
+
+returns-3 : tie.Need-returns-3
+returns-3 c = entry (c .before .before .before .before) (inr (c .if1 .left))
 
 pub factor-spec : {M : Type 1} → statement M
-factor-spec = tie.close (tie.spec column-requires mul-result mul-result-2 index-1-result index-2-result returns)
+factor-spec =
+    tie.close
+    (tie.spec
+    column-requires
+    mul-plain
+    mul-plain-2
+    index-1-plain
+    index-2-plain
+    mul-halved
+    index-1-halved
+    index-2-halved
+    returns
+    returns-2
+    returns-3)

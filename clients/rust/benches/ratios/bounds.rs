@@ -1,0 +1,37 @@
+//! The fields whose instructions are counted, and how many the library may take for each.
+
+/// A list of fields of one sort, on a sheet with so many filled places.
+pub struct Counted {
+    /// One tag, or two in turn.
+    pub field: &'static str,
+    /// 1 is strength, 2 allowable stress.
+    pub method: u8,
+    pub places: u8,
+    /// The library's instructions a field. The benchmark fails where it takes over a tenth more.
+    pub bound: Option<u32>,
+}
+
+/// The bounds are the counts of the library as it is; they are set here alone.
+pub const LISTS: [Counted; 12] = [
+    counted("03", 1, 8, Some(344)),
+    counted("03", 1, 32, Some(344)),
+    counted("02/04", 1, 8, None),
+    counted("02/04", 1, 32, None),
+    counted("06", 1, 8, Some(6055)),
+    counted("06", 1, 32, Some(7034)),
+    counted("06", 2, 8, Some(6810)),
+    counted("06", 2, 32, Some(7803)),
+    counted("07", 1, 8, Some(16954)),
+    counted("07", 1, 32, Some(17446)),
+    counted("07", 2, 8, Some(19997)),
+    counted("07", 2, 32, Some(20503)),
+];
+
+const fn counted(field: &'static str, method: u8, places: u8, bound: Option<u32>) -> Counted {
+    Counted {
+        field,
+        method,
+        places,
+        bound,
+    }
+}

@@ -1,0 +1,83 @@
+-- Row after row of the zone.
+-- Assumes nothing.
+use Prim.Native.Nat.{ℕ}
+use native.Mathlib.Omega.{arith}
+use mathlib.Core.Path.{_≡_, refl, sym, ap, _∙_}
+use lib.IntN.{ℤ}
+use Rattle.standard.specs.Rows.{span}
+use Rattle.terms.specs.Value.{valueOf}
+use Rattle.envelope.specs.declared.Best.{Best}
+use Rattle.envelope.specs.Envelope.{bestAt, bestIn, byZone}
+use Rattle.envelope.proofs.Spans.{no-row, row-more, first-zone, second-zone, no-zone}
+use borrow.Author.Needs.{needs}
+use Rattle.governing.proofs.allowable_flooded.Statement.{statement}
+use Rattle.governing.proofs.allowable_flooded.Tie as tie
+
+with-row-requires : tie.Need-with-row-requires
+with-row-requires c κs = search needs
+
+with-row-requires-2 : tie.Need-with-row-requires-2
+with-row-requires-2 c κs = search needs
+
+with-row-requires-3 : tie.Need-with-row-requires-3
+with-row-requires-3 c κs = search needs
+
+with-row-requires-4 : tie.Need-with-row-requires-4
+with-row-requires-4 c κs = search needs
+
+with-row-requires-5 : tie.Need-with-row-requires-5
+with-row-requires-5 c κs = search needs
+
+returns : tie.Need-returns
+returns c =
+    let i = c .before .before .before .before .before in
+    let a = i .before .before .args in
+    let v : ℕ → ℤ = λ row. valueOf (a .s) row (a .t) in
+    row-more v (a .b) 31 4 (row-more v (a .b) 31 3 (row-more v (a .b) 31 2 (row-more v (a .b) 31 1 (row-more v (a .b) 31 0 (no-row v (a .b) 31 refl) (c .before .before .before .before .with-row .ensures)) (c .before .before .before .with-row2 .ensures)) (c .before .before .with-row3 .ensures)) (c .before .with-row4 .ensures)) (c .with-row5 .ensures)
+    ∙ first-zone (a .s) v (a .b) (span 31 36) (span 36 41) (i .if1 .taken)
+
+with-row-requires-6 : tie.Need-with-row-requires-6
+with-row-requires-6 c κs = search needs
+
+with-row-requires-7 : tie.Need-with-row-requires-7
+with-row-requires-7 c κs = search needs
+
+with-row-requires-8 : tie.Need-with-row-requires-8
+with-row-requires-8 c κs = search needs
+
+with-row-requires-9 : tie.Need-with-row-requires-9
+with-row-requires-9 c κs = search needs
+
+with-row-requires-10 : tie.Need-with-row-requires-10
+with-row-requires-10 c κs = search needs
+
+returns-2 : tie.Need-returns-2
+returns-2 c =
+    let i = c .before .before .before .before .before in
+    let a = i .before .before .before .before .args in
+    let v : ℕ → ℤ = λ row. valueOf (a .s) row (a .t) in
+    row-more v (a .b) 36 4 (row-more v (a .b) 36 3 (row-more v (a .b) 36 2 (row-more v (a .b) 36 1 (row-more v (a .b) 36 0 (no-row v (a .b) 36 refl) (c .before .before .before .before .with-row6 .ensures)) (c .before .before .before .with-row7 .ensures)) (c .before .before .with-row8 .ensures)) (c .before .with-row9 .ensures)) (c .with-row10 .ensures)
+    ∙ second-zone (a .s) v (a .b) (span 31 36) (span 36 41) (i .if2 .taken)
+
+returns-3 : tie.Need-returns-3
+returns-3 c =
+    let a = c .before .before .before .before .args in
+    no-zone (a .s) (λ row. valueOf (a .s) row (a .t)) (a .b) (span 31 36) (span 36 41) (c .before .before .if1 .left) (c .if2 .left)
+
+pub allowable-flooded-spec : {M : Type 1} → statement M
+allowable-flooded-spec =
+    tie.close
+    (tie.spec
+    with-row-requires
+    with-row-requires-2
+    with-row-requires-3
+    with-row-requires-4
+    with-row-requires-5
+    returns
+    with-row-requires-6
+    with-row-requires-7
+    with-row-requires-8
+    with-row-requires-9
+    with-row-requires-10
+    returns-2
+    returns-3)

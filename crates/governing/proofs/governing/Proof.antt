@@ -1,0 +1,70 @@
+-- The rows of the method.
+-- Assumes nothing.
+use Prim.Native.Nat.{ℕ}
+use native.Mathlib.Omega.{arith}
+use mathlib.Core.Path.{_≡_, refl, sym, ap, _∙_}
+use lib.IntN.{ℤ}
+use Rattle.standard.specs.Rows.{span}
+use Rattle.terms.specs.Value.{valueOf}
+use Rattle.envelope.specs.declared.Best.{Best}
+use Rattle.envelope.specs.Envelope.{bestAt, bestIn, byZone}
+use Rattle.envelope.specs.Envelope.{bestOf}
+use Rattle.envelope.proofs.Spans.{strength-rows, allowable-rows, no-rows}
+use borrow.Author.Needs.{needs}
+use Rattle.governing.proofs.governing.Statement.{statement}
+use Rattle.governing.proofs.governing.Tie as tie
+
+row-table-requires : tie.Need-row-table-requires
+row-table-requires c κs = search needs
+
+strength-requires : tie.Need-strength-requires
+strength-requires c κs = search needs
+
+strength-flooded-requires : tie.Need-strength-flooded-requires
+strength-flooded-requires c κs = search needs
+
+returns : tie.Need-returns
+returns c =
+    let t = c .before .before in
+    let i = t .before .before in
+    let a = i .before .before .before .args in
+    let v : ℕ → ℤ = λ row. valueOf (a .s) row (a .t) in
+    c .strength-flooded .ensures ∙ ap (λ (b : Best). bestIn v b (byZone (a .s) (span 9 11) (span 11 13))) (t .strength .ensures) ∙ sym (strength-rows (a .s) v (i .if1 .taken))
+
+allowable-requires : tie.Need-allowable-requires
+allowable-requires c κs = search needs
+
+allowable-flooded-requires : tie.Need-allowable-flooded-requires
+allowable-flooded-requires c κs = search needs
+
+returns-2 : tie.Need-returns-2
+returns-2 c =
+    let t = c .before .before in
+    let i = t .before .before in
+    let a = i .before .before .before .before .before .args in
+    let v : ℕ → ℤ = λ row. valueOf (a .s) row (a .t) in
+    c .allowable-flooded .ensures ∙ ap (λ (b : Best). bestIn v b (byZone (a .s) (span 31 36) (span 36 41))) (t .allowable .ensures) ∙ sym (allowable-rows (a .s) v (i .if2 .taken))
+
+first-row-requires : tie.Need-first-row-requires
+first-row-requires c κs = search needs
+
+returns-3 : tie.Need-returns-3
+returns-3 c =
+    let i = c .before .before in
+    let a = i .before .before .before .before .before .args in
+    let v : ℕ → ℤ = λ row. valueOf (a .s) row (a .t) in
+    c .first-row .ensures ∙ sym (no-rows (a .s) v (i .before .before .if1 .left) (i .if2 .left))
+
+pub governing-spec : {M : Type 1} → statement M
+governing-spec =
+    tie.close
+    (tie.spec
+    row-table-requires
+    strength-requires
+    strength-flooded-requires
+    returns
+    allowable-requires
+    allowable-flooded-requires
+    returns-2
+    first-row-requires
+    returns-3)

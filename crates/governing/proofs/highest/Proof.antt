@@ -1,0 +1,83 @@
+-- Pattern after pattern.
+-- Assumes nothing.
+use Prim.Native.Nat.{ℕ, _+_, _*_, _-_, _<_, _≤_, _^_}
+use native.Mathlib.Omega.{arith}
+use mathlib.Core.Path.{_≡_, refl, sym, _∙_, ap, subst}
+use Rattle.envelope.specs.declared.Best.{Best}
+use Rattle.governing.specs.Ways.{eightOf}
+use Rattle.governing.proofs.Ways.{peak-first, peak-more}
+use borrow.Author.Needs.{needs}
+use Rattle.governing.proofs.highest.Statement.{statement}
+use Rattle.governing.proofs.highest.Tie as tie
+
+toward-requires : tie.Need-toward-requires
+toward-requires c κs = search needs
+
+toward-requires-2 : tie.Need-toward-requires-2
+toward-requires-2 c κs = search needs
+
+higher-requires : tie.Need-higher-requires
+higher-requires c κs = search needs
+
+toward-requires-3 : tie.Need-toward-requires-3
+toward-requires-3 c κs = search needs
+
+higher-requires-2 : tie.Need-higher-requires-2
+higher-requires-2 c κs = search needs
+
+toward-requires-4 : tie.Need-toward-requires-4
+toward-requires-4 c κs = let s = c .before .before .before .before .before .before .before .before .before in (s .pre .3 .sums-range, omega arith, omega arith, s .pre .3 .forth)
+
+higher-requires-3 : tie.Need-higher-requires-3
+higher-requires-3 c κs = search needs
+
+toward-requires-5 : tie.Need-toward-requires-5
+toward-requires-5 c κs = let s = c .before .before .before .before .before .before .before .before .before .before .before in (s .pre .3 .sums-range, omega arith, omega arith, s .pre .3 .back)
+
+higher-requires-4 : tie.Need-higher-requires-4
+higher-requires-4 c κs = search needs
+
+toward-requires-6 : tie.Need-toward-requires-6
+toward-requires-6 c κs = let s = c .before .before .before .before .before .before .before .before .before .before .before .before .before in (s .pre .2 .sums-range, omega arith, omega arith, s .pre .2 .back)
+
+higher-requires-5 : tie.Need-higher-requires-5
+higher-requires-5 c κs = search needs
+
+toward-requires-7 : tie.Need-toward-requires-7
+toward-requires-7 c κs = let s = c .before .before .before .before .before .before .before .before .before .before .before .before .before .before .before in (s .pre .1 .sums-range, omega arith, omega arith, s .pre .1 .back)
+
+higher-requires-6 : tie.Need-higher-requires-6
+higher-requires-6 c κs = search needs
+
+toward-requires-8 : tie.Need-toward-requires-8
+toward-requires-8 c κs = let s = c .before .before .before .before .before .before .before .before .before .before .before .before .before .before .before .before .before in (s .pre .0 .sums-range, omega arith, omega arith, s .pre .0 .back)
+
+higher-requires-7 : tie.Need-higher-requires-7
+higher-requires-7 c κs = search needs
+
+returns : tie.Need-returns
+returns c =
+    let a = c .before .before .before .before .before .before .before .before .before .before .before .before .before .before .before .before .before .before .before .args in
+    let b : ℕ → Best = eightOf (a .s) (a .s0 .now) (a .s1 .now) (a .s2 .now) (a .s3 .now) in
+    peak-more b 6 (peak-more b 5 (peak-more b 4 (peak-more b 3 (peak-more b 2 (peak-more b 1 (peak-more b 0 (peak-first b (c .before .before .before .before .before .before .before .before .before .before .before .before .before .before .toward .result) (c .before .before .before .before .before .before .before .before .before .before .before .before .before .before .toward .ensures)) (c .before .before .before .before .before .before .before .before .before .before .before .before .before .toward2 .ensures) (c .before .before .before .before .before .before .before .before .before .before .before .before .higher .ensures)) (c .before .before .before .before .before .before .before .before .before .before .before .toward3 .ensures) (c .before .before .before .before .before .before .before .before .before .before .higher2 .ensures)) (c .before .before .before .before .before .before .before .before .before .toward4 .ensures) (c .before .before .before .before .before .before .before .before .higher3 .ensures)) (c .before .before .before .before .before .before .before .toward5 .ensures) (c .before .before .before .before .before .before .higher4 .ensures)) (c .before .before .before .before .before .toward6 .ensures) (c .before .before .before .before .higher5 .ensures)) (c .before .before .before .toward7 .ensures) (c .before .before .higher6 .ensures)) (c .before .toward8 .ensures) (c .higher7 .ensures)
+
+pub highest-spec : {M : Type 1} → statement M
+highest-spec =
+    tie.close
+    (tie.spec
+    toward-requires
+    toward-requires-2
+    higher-requires
+    toward-requires-3
+    higher-requires-2
+    toward-requires-4
+    higher-requires-3
+    toward-requires-5
+    higher-requires-4
+    toward-requires-6
+    higher-requires-5
+    toward-requires-7
+    higher-requires-6
+    toward-requires-8
+    higher-requires-7
+    returns)

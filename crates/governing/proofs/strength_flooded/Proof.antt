@@ -1,0 +1,59 @@
+-- Row after row of the zone.
+-- Assumes nothing.
+use Prim.Native.Nat.{ℕ}
+use native.Mathlib.Omega.{arith}
+use mathlib.Core.Path.{_≡_, refl, sym, ap, _∙_}
+use lib.IntN.{ℤ}
+use Rattle.standard.specs.Rows.{span}
+use Rattle.terms.specs.Value.{valueOf}
+use Rattle.envelope.specs.declared.Best.{Best}
+use Rattle.envelope.specs.Envelope.{bestAt, bestIn, byZone}
+use Rattle.envelope.proofs.Spans.{no-row, row-more, first-zone, second-zone, no-zone}
+use borrow.Author.Needs.{needs}
+use Rattle.governing.proofs.strength_flooded.Statement.{statement}
+use Rattle.governing.proofs.strength_flooded.Tie as tie
+
+with-row-requires : tie.Need-with-row-requires
+with-row-requires c κs = search needs
+
+with-row-requires-2 : tie.Need-with-row-requires-2
+with-row-requires-2 c κs = search needs
+
+returns : tie.Need-returns
+returns c =
+    let i = c .before .before in
+    let a = i .before .before .args in
+    let v : ℕ → ℤ = λ row. valueOf (a .s) row (a .t) in
+    row-more v (a .b) 9 1 (row-more v (a .b) 9 0 (no-row v (a .b) 9 refl) (c .before .with-row .ensures)) (c .with-row2 .ensures)
+    ∙ first-zone (a .s) v (a .b) (span 9 11) (span 11 13) (i .if1 .taken)
+
+with-row-requires-3 : tie.Need-with-row-requires-3
+with-row-requires-3 c κs = search needs
+
+with-row-requires-4 : tie.Need-with-row-requires-4
+with-row-requires-4 c κs = search needs
+
+returns-2 : tie.Need-returns-2
+returns-2 c =
+    let i = c .before .before in
+    let a = i .before .before .before .before .args in
+    let v : ℕ → ℤ = λ row. valueOf (a .s) row (a .t) in
+    row-more v (a .b) 11 1 (row-more v (a .b) 11 0 (no-row v (a .b) 11 refl) (c .before .with-row3 .ensures)) (c .with-row4 .ensures)
+    ∙ second-zone (a .s) v (a .b) (span 9 11) (span 11 13) (i .if2 .taken)
+
+returns-3 : tie.Need-returns-3
+returns-3 c =
+    let a = c .before .before .before .before .args in
+    no-zone (a .s) (λ row. valueOf (a .s) row (a .t)) (a .b) (span 9 11) (span 11 13) (c .before .before .if1 .left) (c .if2 .left)
+
+pub strength-flooded-spec : {M : Type 1} → statement M
+strength-flooded-spec =
+    tie.close
+    (tie.spec
+    with-row-requires
+    with-row-requires-2
+    returns
+    with-row-requires-3
+    with-row-requires-4
+    returns-2
+    returns-3)

@@ -1,0 +1,29 @@
+-- The rows that govern by the sums: the effects as they are or negated, and the eight patterns of signs.
+use Prim.Native.Nat.{ℕ}
+use mathlib.Core.List.{List, [], _∷_}
+use lib.IntN.{pos}
+use lib.ListN.{getD}
+use Rattle.standard.specs.declared.Settings.{Settings}
+use Rattle.sums.specs.Sums.{SumsInRange}
+use Rattle.terms.specs.Value.{termsOf, TermsInRange, valueOf}
+use Rattle.envelope.specs.declared.Best.{Best}
+use Rattle.envelope.specs.Envelope.{bestAt, bestOf}
+
+-- the effects as they are at 0 over 1, negated at 1 over 0
+abbrev pub towardOf : Settings → List ℕ → (over under : ℕ) → Best
+towardOf s sums over under = bestOf s (λ row. valueOf s row (termsOf sums over under))
+
+-- the sums are in range, and so are the terms of both ways
+pub record Ready (sums : List ℕ) : Type 0 where
+  pub sums-range : SumsInRange sums
+  pub forth : TermsInRange (termsOf sums 0 1)
+  pub back : TermsInRange (termsOf sums 1 0)
+
+-- by pattern of signs: pattern 7 - i is the opposite of pattern i
+abbrev pub eightOf : Settings → (s0 s1 s2 s3 : List ℕ) → ℕ → Best
+eightOf s s0 s1 s2 s3 i =
+    getD (
+    towardOf s s0 0 1 ∷ towardOf s s1 0 1 ∷ towardOf s s2 0 1 ∷ towardOf s s3 0 1
+    ∷ towardOf s s3 1 0 ∷ towardOf s s2 1 0 ∷ towardOf s s1 1 0 ∷ towardOf s s0 1 0
+    ∷ []
+    ) i (bestAt 0 (pos 0))

@@ -1,0 +1,136 @@
+-- The acting cases are those that all act, those of the subsets whose effect is above zero, and the lead of each group.
+-- Assumes nothing.
+use Prim.Native.Nat.{ℕ, zero, suc, _+_, _*_, _<_, _^_}
+use native.Mathlib.Omega.{arith}
+use mathlib.Core.Bool.{Bool, true, false, _&&_}
+use mathlib.Core.Path.{_≡_, refl, sym, _∙_}
+use borrow.Author.Tests.{lt-ltb}
+use lib.Dec.{eqb, ltb}
+use lib.IntN.{ℤ}
+use Rattle.integers.specs.Sums.{when, sum, most, mostAt, maskOf, up}
+use Rattle.integers.proofs.Sums.{eqb-cases, ltb-cases, sum-same, sum-none, sum-only, sum-plus, sum-swap, most-ge, most-at}
+use Rattle.standard.specs.declared.Settings.{Settings}
+use Rattle.standard.specs.declared.Class.{Class}
+use Rattle.standard.specs.declared.Class.the-variants.{Always, Subset, OneOf, Unknown}
+use Rattle.standard.specs.Kinds.{classOf, groups}
+use Rattle.standard.specs.Rows.{factorOf}
+use Rattle.standard.specs.Combination.{cases}
+use Rattle.standard.proofs.Facts.{group-below}
+use Rattle.optimum.specs.Row.{groupBy, groupOf, worthOf, leaderOf, actsBy, actsIn}
+use Rattle.naming.specs.Sets.{leadBit}
+
+abbrev pub isAlways : Class → Bool
+isAlways Always = true
+isAlways Subset = false
+isAlways (OneOf g) = false
+isAlways Unknown = false
+
+abbrev pub isSubset : Class → Bool
+isSubset Always = false
+isSubset Subset = true
+isSubset (OneOf g) = false
+isSubset Unknown = false
+
+-- a case of a group that adds nothing does not act, and one that adds something and leads does
+adds-none : (own lead : Bool) (f u x : ℕ) → when own (f * u) ≡ 0 → when (own && (ltb 0 f && (lead && ltb 0 u))) x ≡ 0
+adds-none false lead f u x e = refl
+adds-none true lead zero u x e = refl
+adds-none true lead (suc f) zero x e = off (ltb 0 (suc f)) lead
+  where
+    off : (t l : Bool) → when (t && (l && false)) x ≡ 0
+    off true true = refl
+    off true false = refl
+    off false l = refl
+adds-none true lead (suc f) (suc u) x e = absurd (omega arith)
+
+adds-some : (own : Bool) (f u x : ℕ) → 0 < when own (f * u) → when (own && (ltb 0 f && (true && ltb 0 u))) x ≡ x
+adds-some false f u x h = absurd (omega arith)
+adds-some true zero u x h = absurd (omega arith)
+adds-some true (suc f) zero x h = absurd (omega arith)
+adds-some true (suc f) (suc u) x h = rw (lt-ltb 0 (suc f) (omega arith), lt-ltb 0 (suc u) (omega arith))
+
+not-lead : (own t p : Bool) (x : ℕ) → when (own && (t && (false && p))) x ≡ 0
+not-lead false t p x = refl
+not-lead true true p x = refl
+not-lead true false p x = refl
+
+and-true : (t : Bool) (x : ℕ) → when (t && true) x ≡ when t x
+and-true true x = refl
+and-true false x = refl
+
+and-false : (t : Bool) (x : ℕ) → when (t && false) x ≡ 0
+and-false true x = refl
+and-false false x = refl
+
+-- by class: by itself, or as the lead of its group
+module _ (f positive : Bool) (lead : ℕ → ℕ) (k x : ℕ) where
+  abbrev led : Class → ℕ → ℕ
+  led q g = when (eqb (groupBy q) g && (f && (eqb (lead g) k && positive))) x
+
+  parted : (q : Class) → ((g : ℕ) → q ≡ OneOf g → g < groups) →
+      when (f && actsBy q positive (eqb (lead (groupBy q)) k)) x ≡ when (isAlways q && f) x + when ((isSubset q && f) && positive) x + sum groups (led q)
+  unfolding sum
+  parted Always h = omega (arith, and-true f x)
+  parted Subset h = omega arith
+  parted (OneOf g) h =
+      let l : g < groups = h g refl in
+      omega (
+        arith,
+        sum-only groups g (led (OneOf g)) l
+            (λ j ne. eqb-cases g j (λ t. when (t && (f && (eqb (lead j) k && positive))) x ≡ 0) (λ e. absurd (ne (sym e))) (λ _. refl)),
+        eqb-cases g g (λ t. when (t && (f && (eqb (lead g) k && positive))) x ≡ when (f && (eqb (lead g) k && positive)) x) (λ _. refl) (λ ne. absurd (ne refl)),
+      )
+  parted Unknown h = omega (arith, and-false f x)
+
+-- whether case k has a factor
+abbrev pub factored : Settings → ℕ → (ℕ → ℕ) → ℕ → Bool
+factored s row kind k = ltb 0 (factorOf s row (kind k))
+
+module _ (s : Settings) (row : ℕ) (kind : ℕ → ℕ) (x : ℕ → ℤ) where
+  -- the cases that act by themselves
+  abbrev always : ℕ → Bool
+  always k = isAlways (classOf (kind k)) && factored s row kind k
+
+  abbrev positive : ℕ → Bool
+  positive k = (isSubset (classOf (kind k)) && factored s row kind k) && ltb 0 (up (x k))
+
+  -- whether case k is of group g, and what it adds for the group
+  abbrev own : ℕ → ℕ → Bool
+  own g k = eqb (groupOf (kind k)) g
+
+  abbrev adds : ℕ → ℕ → ℕ
+  adds g = worthOf s row kind x g
+
+  abbrev leading : ℕ → ℕ → ℕ
+  leading g k = when (own g k && (factored s row kind k && (eqb (leaderOf s row kind x g) k && ltb 0 (up (x k))))) (2 ^ k)
+
+  each : (k : ℕ) → when (actsIn s row kind x k) (2 ^ k) ≡ when (always k) (2 ^ k) + when (positive k) (2 ^ k) + sum groups (λ g. leading g k)
+  unfolding actsIn groupOf
+  each k = parted (factored s row kind k) (ltb 0 (up (x k))) (leaderOf s row kind x) k (2 ^ k) (classOf (kind k)) (λ g q. group-below (kind k) g q)
+
+  -- the lead of a group, as a bit
+  one-lead : (g : ℕ) → sum cases (leading g) ≡ leadBit cases (adds g)
+  unfolding leadBit
+  one-lead g =
+      ltb-cases 0 (most cases (adds g)) (λ t. sum cases (leading g) ≡ when t (2 ^ mostAt cases (adds g)))
+      (λ h. let m : (mostAt cases (adds g) < cases) × (adds g (mostAt cases (adds g)) ≡ most cases (adds g)) = most-at cases (adds g) h in
+      sum-only cases (mostAt cases (adds g)) (leading g) (m .0)
+      (λ k ne. eqb-cases (mostAt cases (adds g)) k (λ t. when (own g k && (factored s row kind k && (t && ltb 0 (up (x k))))) (2 ^ k) ≡ 0)
+      (λ q. absurd (ne (sym q))) (λ _. not-lead (own g k) (factored s row kind k) (ltb 0 (up (x k))) (2 ^ k)))
+      ∙ at-lead (mostAt cases (adds g)) (omega (arith, m .1)))
+      (λ h. sum-none cases (leading g)
+      (λ k l. adds-none (own g k) (eqb (leaderOf s row kind x g) k) (factorOf s row (kind k)) (up (x k)) (2 ^ k) (omega (arith, most-ge cases k (adds g) l))))
+    where
+      at-lead : (j : ℕ) → 0 < adds g j → when (own g j && (factored s row kind j && (eqb j j && ltb 0 (up (x j))))) (2 ^ j) ≡ 2 ^ j
+      at-lead j h =
+          eqb-cases j j (λ t. when (own g j && (factored s row kind j && (t && ltb 0 (up (x j))))) (2 ^ j) ≡ 2 ^ j)
+          (λ _. adds-some (own g j) (factorOf s row (kind j)) (up (x j)) (2 ^ j) h) (λ ne. absurd (ne refl))
+
+  pub acting-is : maskOf cases (actsIn s row kind x) ≡ maskOf cases (λ k. isAlways (classOf (kind k)) && factored s row kind k)
+      + maskOf cases (λ k. (isSubset (classOf (kind k)) && factored s row kind k) && ltb 0 (up (x k))) + sum groups (λ g. leadBit cases (worthOf s row kind x g))
+  unfolding maskOf
+  acting-is =
+      sum-same cases (λ k. when (actsIn s row kind x k) (2 ^ k)) (λ k. when (always k) (2 ^ k) + when (positive k) (2 ^ k) + sum groups (λ g. leading g k)) (λ k l. each k)
+      ∙ sum-plus cases (λ k. when (always k) (2 ^ k) + when (positive k) (2 ^ k)) (λ k. sum groups (λ g. leading g k))
+      ∙ (λ i. sum-plus cases (λ k. when (always k) (2 ^ k)) (λ k. when (positive k) (2 ^ k)) i
+      + (sum-swap cases groups (λ k g. leading g k) ∙ sum-same groups (λ g. sum cases (leading g)) (λ g. leadBit cases (adds g)) (λ g l. one-lead g)) i)

@@ -1,0 +1,78 @@
+-- What is marked of each set of cases chosen makes the sets.
+-- Assumes nothing.
+use Prim.Native.Nat.{ℕ}
+use lib.IntN.{ℤ}
+use borrow.Author.Needs.{needs}
+use Rattle.envelope.specs.Range.{effectOf}
+use Rattle.envelope.specs.Envelope.{weighed}
+use Rattle.naming.specs.Sets.{chosenOf, ChosenInRange}
+use Rattle.naming.proofs.Naming.{chosen-small, six-small, named-is}
+use Rattle.naming.proofs.sets_by.Statement.{statement}
+use Rattle.naming.proofs.sets_by.Tie as tie
+
+abbrev x : tie.Start → ℕ → ℤ
+x s = weighed (s .args .w) (effectOf (s .args .effects .now))
+
+chosen-in-requires : tie.Need-chosen-in-requires
+chosen-in-requires c κs = search needs
+
+small : (c : tie.After-chosen-in) → ChosenInRange (c .chosen-in .result)
+small c = let s = c .before .before in chosen-small (chosenOf (s .args .row) (s .args .places .now)) (s .pre .2) (c .chosen-in .result) (c .chosen-in .ensures)
+
+marked-by-requires : tie.Need-marked-by-requires
+marked-by-requires c κs = (small c .earth, c .before .before .pre .3, c .before .before .pre .4)
+
+marked-by-requires-2 : tie.Need-marked-by-requires-2
+marked-by-requires-2 c κs = let p = c .before in (small p .free, p .before .before .pre .3, p .before .before .pre .4)
+
+marked-by-requires-3 : tie.Need-marked-by-requires-3
+marked-by-requires-3 c κs = let p = c .before .before in (small p .roof, p .before .before .pre .3, p .before .before .pre .4)
+
+marked-by-requires-4 : tie.Need-marked-by-requires-4
+marked-by-requires-4 c κs = let p = c .before .before .before in (small p .wind, p .before .before .pre .3, p .before .before .pre .4)
+
+marked-by-requires-5 : tie.Need-marked-by-requires-5
+marked-by-requires-5 c κs = let p = c .before .before .before .before in (small p .quake, p .before .before .pre .3, p .before .before .pre .4)
+
+marked-by-requires-6 : tie.Need-marked-by-requires-6
+marked-by-requires-6 c κs = let p = c .before .before .before .before .before in (small p .flood, p .before .before .pre .3, p .before .before .pre .4)
+
+named-requires : tie.Need-named-requires
+named-requires c κs =
+    let m5 = c .before in
+    let m4 = m5 .before in
+    let m3 = m4 .before in
+    let m2 = m3 .before in
+    let m1 = m2 .before in
+    let p = m1 .before in
+    let s = p .before .before in
+    six-small (chosenOf (s .args .row) (s .args .places .now)) (s .pre .2) (p .chosen-in .result) (p .chosen-in .ensures) (x s) _ _ _ _ _ _
+    (m1 .marked-by .ensures) (m2 .marked-by2 .ensures) (m3 .marked-by3 .ensures) (m4 .marked-by4 .ensures) (m5 .marked-by5 .ensures) (c .marked-by6 .ensures)
+
+returns : tie.Need-returns
+returns c =
+    let m6 = c .before in
+    let m5 = m6 .before in
+    let m4 = m5 .before in
+    let m3 = m4 .before in
+    let m2 = m3 .before in
+    let m1 = m2 .before in
+    let p = m1 .before in
+    let s = p .before .before in
+    named-is (chosenOf (s .args .row) (s .args .places .now)) (s .pre .2) (p .chosen-in .result) (p .chosen-in .ensures) (x s) _ _ _ _ _ _
+    (m1 .marked-by .ensures) (m2 .marked-by2 .ensures) (m3 .marked-by3 .ensures) (m4 .marked-by4 .ensures) (m5 .marked-by5 .ensures) (m6 .marked-by6 .ensures)
+    (c .named .result) (c .named .ensures)
+
+pub sets-by-spec : {M : Type 1} → statement M
+sets-by-spec =
+    tie.close
+    (tie.spec
+    chosen-in-requires
+    marked-by-requires
+    marked-by-requires-2
+    marked-by-requires-3
+    marked-by-requires-4
+    marked-by-requires-5
+    marked-by-requires-6
+    named-requires
+    returns)

@@ -1,0 +1,83 @@
+-- The sets of a row's best combination, as they are worked out from the cases of each kind.
+use Prim.Native.Nat.{ℕ, _+_, _<_, _^_}
+use mathlib.Core.Bool.{Bool, cond, _&&_}
+use mathlib.Core.List.{List}
+use lib.Dec.{ltb}
+use lib.IntN.{ℤ, pos}
+use lib.ListN.{getD}
+use lib.Signed.{ltZ}
+use Rattle.integers.specs.Sums.{when, sum, most, mostAt, maskOf, up, down}
+use Rattle.integers.specs.Sets.{has}
+use Rattle.standard.specs.Columns.{kindsIn}
+use Rattle.standard.specs.Combination.{cases}
+use Rattle.naming.specs.declared.Marked.{Marked}
+use Rattle.naming.specs.declared.Chosen.{Chosen}
+use Rattle.naming.specs.declared.Sets.{Sets}
+
+-- the bit of the first number that has the greatest value, 0 where no value is above 0
+unfoldable pub leadBit : ℕ → (ℕ → ℕ) → ℕ
+leadBit n g = when (ltb 0 (most n g)) (2 ^ mostAt n g)
+
+-- the members below n by their effects
+abbrev pub markedIn : (ℕ → Bool) → (ℕ → ℤ) → ℕ → Marked
+markedIn p x n =
+    record {
+      above = maskOf n (λ k. p k && ltb 0 (up (x k)));
+      below = maskOf n (λ k. p k && ltb 0 (down (x k)));
+      lead = leadBit n (λ k. when (p k) (up (x k)));
+      most = pos (most n (λ k. when (p k) (up (x k))));
+    }
+
+-- one member more
+abbrev pub markedWith : Marked → ℤ → ℕ → Marked
+markedWith m x bit =
+    record {
+      above = m .above + when (ltb 0 (up x)) bit;
+      below = m .below + when (ltb 0 (down x)) bit;
+      lead = cond (ltZ (m .most) x) bit (m .lead);
+      most = cond (ltZ (m .most) x) x (m .most);
+    }
+
+-- the cases of the kinds from `first` on, `count` of them, that are among the kinds of a set
+unfoldable pub gatheredOf : List ℕ → (factored first count : ℕ) → ℕ
+gatheredOf places factored first count = sum count (λ i. when (has factored (first + i)) (getD places (first + i) 0))
+
+unfoldable pub chosenOf : ℕ → List ℕ → Chosen
+chosenOf row places =
+    record {
+      always = gatheredOf places (kindsIn row) 1 3;
+      earth = gatheredOf places (kindsIn row) 3 1;
+      free = gatheredOf places (kindsIn row) 4 2;
+      roof = gatheredOf places (kindsIn row) 6 3;
+      wind = gatheredOf places (kindsIn row) 9 1;
+      quake = gatheredOf places (kindsIn row) 10 1;
+      flood = gatheredOf places (kindsIn row) 11 1;
+    }
+
+-- each is a set of cases
+pub record ChosenInRange (c : Chosen) : Type 0 where
+  pub always : c .always < 2 ^ cases
+  pub earth : c .earth < 2 ^ cases
+  pub free : c .free < 2 ^ cases
+  pub roof : c .roof < 2 ^ cases
+  pub wind : c .wind < 2 ^ cases
+  pub quake : c .quake < 2 ^ cases
+  pub flood : c .flood < 2 ^ cases
+
+-- the sets that the cases marked make
+abbrev pub namedBy : (always : ℕ) → (earth free roof wind quake flood : Marked) → Sets
+namedBy always earth free roof wind quake flood =
+    record { acting = always + free .above + (roof .lead + wind .lead + quake .lead + flood .lead); low = earth .below }
+
+pub record MarkedSix (always : ℕ) (earth free roof wind quake flood : Marked) : Type 0 where
+  pub always-small : always < 2 ^ cases
+  pub free-small : free .above < 2 ^ cases
+  pub roof-small : roof .lead < 2 ^ cases
+  pub wind-small : wind .lead < 2 ^ cases
+  pub quake-small : quake .lead < 2 ^ cases
+  pub flood-small : flood .lead < 2 ^ cases
+
+unfoldable pub namedOf : Chosen → (ℕ → ℤ) → Sets
+namedOf c x =
+    namedBy (c .always) (markedIn (has (c .earth)) x cases) (markedIn (has (c .free)) x cases) (markedIn (has (c .roof)) x cases)
+    (markedIn (has (c .wind)) x cases) (markedIn (has (c .quake)) x cases) (markedIn (has (c .flood)) x cases)

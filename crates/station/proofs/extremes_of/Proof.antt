@@ -1,0 +1,197 @@
+-- One pass, the rows that govern the effects and the effects negated, and the sets of these rows.
+-- Assumes nothing.
+use borrow.Author.Needs.{needs}
+use Prim.Native.Nat.{ℕ, _+_, _*_, _<_, _≤_, _^_}
+use native.Mathlib.Omega.{arith}
+use mathlib.Core.List.{List}
+use mathlib.Core.Path.{_≡_, refl, sym, ap, _∙_, subst}
+use lib.IntN.{ℤ, negℤ, natAbs}
+use Rattle.integers.proofs.Machine.{back, read}
+use Rattle.integers.proofs.Signs.{abs-negated}
+use Rattle.standard.specs.Kinds.{kinds}
+use Rattle.standard.specs.Rows.{rows}
+use Rattle.envelope.specs.declared.Best.{Best}
+use Rattle.envelope.specs.declared.Extreme.{Extreme}
+use Rattle.envelope.specs.Range.{kindOf, effectOf, effectMost, EffectsInRange}
+use Rattle.envelope.specs.Envelope.{governingOf, extremeIn, negatedOf, extremesOf}
+use Rattle.envelope.proofs.Limits.{row-below, value-fits}
+use Rattle.sums.specs.Sums.{Summed}
+use Rattle.sums.proofs.Gathered.{summed}
+use Rattle.governing.specs.Ways.{Ready}
+use Rattle.governing.proofs.Ways.{forward-is, opposite-is, ready}
+use Rattle.naming.proofs.BestSets.{places-in-range, chosen-in-range}
+use Rattle.station.proofs.Named.{sets-fit, extreme-is, negated-extreme-is}
+use Rattle.station.proofs.extremes_of.Statement.{statement}
+use Rattle.station.proofs.extremes_of.Tie as tie
+
+-- the station's kinds, and its effects on the component
+abbrev kind : tie.Start → ℕ → ℕ
+kind s = kindOf (s .args .kinds .now)
+
+abbrev effect : tie.Start → ℕ → ℤ
+effect s k = effectOf (s .args .effects .now) k (s .args .component)
+
+below : (s : tie.Start) (k : ℕ) → kind s k < kinds
+below s k = omega (arith, s .pre .0 .kinds-range k)
+
+small : (s : tie.Start) (k : ℕ) → natAbs (effect s k) ≤ effectMost
+small s k = omega (arith, s .pre .0 .effects-range (k * 3 + s .args .component))
+
+opposed-small : (s : tie.Start) (k : ℕ) → natAbs (negℤ (effect s k)) ≤ effectMost
+opposed-small s k = omega (arith, abs-negated (effect s k), small s k)
+
+in-range : (s : tie.Start) → EffectsInRange (s .args .effects .now)
+in-range s = record { long = s .pre .0 .effects-long; range = s .pre .0 .effects-range }
+
+-- the sums of the pass
+sums-are : (c : tie.After-sums-of) → let s = c .before .before .before .before in Summed (c .sums-of .result) (kind s) (effect s)
+sums-are c =
+    let p = c .before .before in
+    let s = p .before .before in
+    summed (c .sums-of .result) (p .places-of .result) (kind s) (effect s) (p .places-of .ensures) (c .sums-of .ensures)
+
+sums-ready : (c : tie.After-sums-of) → Ready (c .sums-of .result)
+sums-ready c = let s = c .before .before .before .before in ready (s .args .s) (c .sums-of .result) (kind s) (effect s) (below s) (sums-are c) (small s)
+
+-- the rows that govern
+most-is : (c : tie.After-toward) → let s = c .before .before .before .before .before .before in
+    c .toward .result ≡ governingOf (s .args .s) (kind s) (effect s)
+most-is c =
+    let m = c .before .before in
+    let s = m .before .before .before .before in
+    c .toward .ensures ∙ forward-is (s .args .s) (m .sums-of .result) (kind s) (effect s) (below s) (sums-are m) (effect s) (λ k. refl)
+
+least-is : (c : tie.After-toward2) → let s = c .before .before .before .before .before .before .before .before in
+    c .toward2 .result ≡ governingOf (s .args .s) (kind s) (λ k. negℤ (effect s k))
+least-is c =
+    let m = c .before .before .before .before in
+    let s = m .before .before .before .before in
+    c .toward2 .ensures ∙ opposite-is (s .args .s) (m .sums-of .result) (kind s) (effect s) (below s) (sums-are m) (λ k. negℤ (effect s k)) (λ k. refl)
+
+places-of-requires : tie.Need-places-of-requires
+places-of-requires c κs = let s = c .before in record { long = s .pre .0 .kinds-long; range = s .pre .0 .kinds-range }
+
+slice-aggregate-sums-of : tie.Need-slice-aggregate-sums-of
+slice-aggregate-sums-of c = search needs
+
+sums-of-requires : tie.Need-sums-of-requires
+sums-of-requires c κs =
+    let p = c .before in
+    let s = p .before .before in
+    (places-in-range (p .places-of .result) (kind s) (p .places-of .ensures), in-range s, s .pre .1)
+
+slice-aggregate-toward : tie.Need-slice-aggregate-toward
+slice-aggregate-toward c = search needs
+
+toward-requires : tie.Need-toward-requires
+toward-requires c κs = let r = sums-ready (c .before) in (r .sums-range, omega arith, omega arith, r .forth)
+
+slice-aggregate-toward-2 : tie.Need-slice-aggregate-toward-2
+slice-aggregate-toward-2 c = search needs
+
+toward-requires-2 : tie.Need-toward-requires-2
+toward-requires-2 c κs = let r = sums-ready (c .before .before .before) in (r .sums-range, omega arith, omega arith, r .back)
+
+slice-aggregate-sets-at : tie.Need-slice-aggregate-sets-at
+slice-aggregate-sets-at c = search needs
+
+sets-at-requires : tie.Need-sets-at-requires
+sets-at-requires c κs =
+    let t = c .before .before .before in
+    let p = t .before .before .before .before in
+    let s = p .before .before in (
+      subst (λ (b : Best). b .row < rows) (sym (most-is t)) (row-below (s .args .s) (kind s) (effect s)),
+      places-in-range (p .places-of .result) (kind s) (p .places-of .ensures),
+      chosen-in-range (p .places-of .result) (kind s) (p .places-of .ensures) (t .toward .result .row),
+      in-range s,
+      s .pre .1,
+    )
+
+slice-aggregate-sets-at-2 : tie.Need-slice-aggregate-sets-at-2
+slice-aggregate-sets-at-2 c = search needs
+
+sets-at-requires-2 : tie.Need-sets-at-requires-2
+sets-at-requires-2 c κs =
+    let t = c .before .before .before in
+    let p = t .before .before .before .before .before .before in
+    let s = p .before .before in (
+      subst (λ (b : Best). b .row < rows) (sym (least-is t)) (row-below (s .args .s) (kind s) (λ k. negℤ (effect s k))),
+      places-in-range (p .places-of .result) (kind s) (p .places-of .ensures),
+      chosen-in-range (p .places-of .result) (kind s) (p .places-of .ensures) (t .toward2 .result .row),
+      in-range s,
+      s .pre .1,
+    )
+
+most-fits : (c : tie.After-toward) → natAbs (c .toward .result .value) < 2 ^ 63
+most-fits c =
+    let s = c .before .before .before .before .before .before in
+    subst (λ (b : Best). natAbs (b .value) < 2 ^ 63) (sym (most-is c)) (value-fits (s .args .s) (kind s) (effect s) (small s))
+
+least-fits : (c : tie.After-toward2) → natAbs (c .toward2 .result .value) < 2 ^ 63
+least-fits c =
+    let s = c .before .before .before .before .before .before .before .before in
+    subst (λ (b : Best). natAbs (b .value) < 2 ^ 63) (sym (least-is c)) (value-fits (s .args .s) (kind s) (λ k. negℤ (effect s k)) (opposed-small s))
+
+negated-requires : tie.Need-negated-requires
+negated-requires c κs = let t = c .before .before .before .before .before in rw (back (t .toward2 .result .value) (least-fits t)) (least-fits t)
+
+extreme-requires : tie.Need-extreme-requires
+extreme-requires c κs =
+    let x = c .before .before .before .before .before in
+    let t = x .before .before .before .before in
+    let p = t .before .before .before .before in
+    let s = p .before .before in
+    sets-fit (s .args .s) (kind s) (below s) (p .places-of .result) (p .places-of .ensures) (effect s) (t .toward .result .row) (x .sets-at .result) (x .sets-at .ensures)
+
+extreme-requires-2 : tie.Need-extreme-requires-2
+extreme-requires-2 c κs =
+    let x = c .before .before .before .before in
+    let t = x .before .before .before .before in
+    let p = t .before .before .before .before .before .before in
+    let s = p .before .before in
+    sets-fit (s .args .s) (kind s) (below s) (p .places-of .result) (p .places-of .ensures) (λ k. negℤ (effect s k)) (t .toward2 .result .row) (x .sets-at2 .result) (x .sets-at2 .ensures)
+
+returns : tie.Need-returns
+unfolding extremesOf
+returns c =
+    let m = c .before in
+    let n = m .before .before in
+    let y = n .before .before in
+    let x = y .before .before in
+    let u = x .before .before in
+    let t = u .before .before in
+    let p = t .before .before .before .before in
+    let s = p .before .before in
+    let places = p .places-of .result in
+    let held = p .places-of .ensures in
+    let maximum : m .extreme .result ≡ extremeIn (s .args .s) (kind s) (effect s) (governingOf (s .args .s) (kind s) (effect s)) =
+    extreme-is (s .args .s) (kind s) (below s) places held (effect s) (t .toward .result .row) (x .sets-at .result) (x .sets-at .ensures) (m .extreme .result) (t .toward .result .value)
+    (m .extreme .ensures .1) (m .extreme .ensures .2) (m .extreme .ensures .3) (m .extreme .ensures .0 ∙ back (t .toward .result .value) (most-fits t))
+    ∙ ap (extremeIn (s .args .s) (kind s) (effect s)) (most-is t) in
+    let value : c .extreme2 .result .value ≡ negℤ (u .toward2 .result .value) =
+    c .extreme2 .ensures .0 ∙ read (n .negated .result) (n .negated .ok) ∙ n .negated .ensures ∙ ap negℤ (back (u .toward2 .result .value) (least-fits u)) in
+    let minimum : c .extreme2 .result ≡ negatedOf (extremeIn (s .args .s) (kind s) (λ k. negℤ (effect s k)) (governingOf (s .args .s) (kind s) (λ k. negℤ (effect s k)))) =
+    negated-extreme-is (s .args .s) (kind s) (below s) places held (λ k. negℤ (effect s k)) (u .toward2 .result .row) (y .sets-at2 .result) (y .sets-at2 .ensures) (c .extreme2 .result) (u .toward2 .result .value)
+    (c .extreme2 .ensures .1) (c .extreme2 .ensures .2) (c .extreme2 .ensures .3) value
+    ∙ ap (λ (b : Best). negatedOf (extremeIn (s .args .s) (kind s) (λ k. negℤ (effect s k)) b)) (least-is u) in
+    λ i. record { maximum = maximum i; minimum = minimum i }
+
+pub extremes-of-spec : {M : Type 1} → statement M
+extremes-of-spec =
+    tie.close
+    (tie.spec
+    places-of-requires
+    slice-aggregate-sums-of
+    sums-of-requires
+    slice-aggregate-toward
+    toward-requires
+    slice-aggregate-toward-2
+    toward-requires-2
+    slice-aggregate-sets-at
+    sets-at-requires
+    slice-aggregate-sets-at-2
+    sets-at-requires-2
+    negated-requires
+    extreme-requires
+    extreme-requires-2
+    returns)

@@ -1,0 +1,126 @@
+-- One pass for four directions, and the best of the eight patterns.
+-- Assumes nothing.
+use Prim.Native.Nat.{ℕ, _<_, _≤_, _^_}
+use native.Mathlib.Omega.{arith}
+use mathlib.Core.List.{List}
+use mathlib.Core.Path.{_≡_, refl, sym, ap, _∙_, subst}
+use lib.IntN.{ℤ, natAbs}
+use Rattle.standard.specs.Kinds.{kinds}
+use Rattle.envelope.specs.declared.Weights.{Weights}
+use Rattle.envelope.specs.Range.{effectOf, effectMost, WeightsInRange}
+use Rattle.envelope.specs.Envelope.{patternOf}
+use Rattle.envelope.proofs.Patterns.{pattern-in-range}
+use Rattle.sums.specs.declared.Directions.{Directions}
+use Rattle.sums.specs.Sums.{SumsOf}
+use Rattle.sums.specs.Four.{directed, FourOf, DirectionsInRange}
+use Rattle.sums.proofs.FourHeld.{directed-most}
+use Rattle.sums.proofs.Gathered.{summed}
+use Rattle.governing.specs.Ways.{Ready}
+use Rattle.governing.proofs.Ways.{ready, eight-are}
+use Rattle.naming.proofs.BestSets.{places-in-range}
+use borrow.Author.Needs.{needs}
+use Rattle.station.proofs.peak_of.Statement.{statement}
+use Rattle.station.proofs.peak_of.Tie as tie
+
+abbrev ways : tie.Start → ℕ → Directions
+ways s = directed (patternOf (s .args .p) 0) (effectOf (s .args .effects .now))
+
+weights : (s : tie.Start) (w : Weights) → w ≡ patternOf (s .args .p) 0 → WeightsInRange w
+weights s w e = subst WeightsInRange (sym e) (pattern-in-range (s .args .p) 0 (s .pre .2))
+
+-- the sums of the four directions, by the weights of pattern 0
+sums-are : (c : tie.After-four-sums-of) → let s = c .before .before .before .before .before .before .before in let l = c .four-sums-of .last in
+    FourOf (l .0) (l .1 .0) (l .1 .1 .0) (l .1 .1 .1 .0) (s .args .places .now) (ways s) kinds
+sums-are c =
+    let w = c .before .before .before .before .before in
+    let s = w .before .before in
+    let l = c .four-sums-of .last in
+    subst (λ (v : Weights). FourOf (l .0) (l .1 .0) (l .1 .1 .0) (l .1 .1 .1 .0) (s .args .places .now) (directed v (effectOf (s .args .effects .now))) kinds)
+    (w .pattern-weights .ensures) (c .four-sums-of .ensures)
+
+sums-ready : (s : tie.Start) (way : Directions → ℤ) → ((d : Directions) → DirectionsInRange d → natAbs (way d) ≤ effectMost) → (sums : List ℕ) →
+    SumsOf sums (s .args .places .now) (λ k. way (ways s k)) kinds → Ready sums
+sums-ready s way most sums h =
+    let kind = s .pre .0 .kind in
+    let e : ℕ → ℤ = λ k. way (ways s k) in
+    ready (s .args .s) sums kind e (s .pre .0 .below) (summed sums (s .args .places .now) kind e (s .pre .0 .are) h)
+    (λ k. most (ways s k) (directed-most (s .args .effects .now) (patternOf (s .args .p) 0) (s .pre .1) (weights s (patternOf (s .args .p) 0) refl) k))
+
+pattern-weights-requires : tie.Need-pattern-weights-requires
+pattern-weights-requires c κs = search needs
+
+slice-aggregate-four-sums-of : tie.Need-slice-aggregate-four-sums-of
+slice-aggregate-four-sums-of c = search needs
+
+slice-aggregate-four-sums-of-2 : tie.Need-slice-aggregate-four-sums-of-2
+slice-aggregate-four-sums-of-2 c = search needs
+
+slice-aggregate-four-sums-of-3 : tie.Need-slice-aggregate-four-sums-of-3
+slice-aggregate-four-sums-of-3 c = search needs
+
+slice-aggregate-four-sums-of-4 : tie.Need-slice-aggregate-four-sums-of-4
+slice-aggregate-four-sums-of-4 c = search needs
+
+four-sums-of-requires : tie.Need-four-sums-of-requires
+four-sums-of-requires c κs =
+    let w = c .before .before .before .before in
+    let s = w .before .before in (
+      refl,
+      refl,
+      refl,
+      refl,
+      places-in-range (s .args .places .now) (s .pre .0 .kind) (s .pre .0 .are),
+      s .pre .1,
+      weights s (w .pattern-weights .result) (w .pattern-weights .ensures),
+    )
+
+slice-aggregate-highest : tie.Need-slice-aggregate-highest
+slice-aggregate-highest c = search needs
+
+slice-aggregate-highest-2 : tie.Need-slice-aggregate-highest-2
+slice-aggregate-highest-2 c = search needs
+
+slice-aggregate-highest-3 : tie.Need-slice-aggregate-highest-3
+slice-aggregate-highest-3 c = search needs
+
+slice-aggregate-highest-4 : tie.Need-slice-aggregate-highest-4
+slice-aggregate-highest-4 c = search needs
+
+highest-requires : tie.Need-highest-requires
+highest-requires c κs =
+    let f = c .before .before .before .before .before .before .before .before in
+    let s = f .before .before .before .before .before .before .before in
+    let h = sums-are f in
+    let l = f .four-sums-of .last in (
+      sums-ready s (λ d. d .first) (λ d r. r .first) (l .0) (h .first),
+      sums-ready s (λ d. d .second) (λ d r. r .second) (l .1 .0) (h .second),
+      sums-ready s (λ d. d .third) (λ d r. r .third) (l .1 .1 .0) (h .third),
+      sums-ready s (λ d. d .fourth) (λ d r. r .fourth) (l .1 .1 .1 .0) (h .fourth),
+    )
+
+returns : tie.Need-returns
+returns c =
+    let f = c .before .before .before .before .before .before .before .before .before in
+    let s = f .before .before .before .before .before .before .before in
+    let l = f .four-sums-of .last in
+    record {
+      is = λ kind below held. c .highest .ensures
+          ∙ eight-are (s .args .s) kind (effectOf (s .args .effects .now)) (s .args .p) below (l .0) (l .1 .0) (l .1 .1 .0) (l .1 .1 .1 .0) (s .args .places .now) held (sums-are f);
+    }
+
+pub peak-of-spec : {M : Type 1} → statement M
+peak-of-spec =
+    tie.close
+    (tie.spec
+    pattern-weights-requires
+    slice-aggregate-four-sums-of
+    slice-aggregate-four-sums-of-2
+    slice-aggregate-four-sums-of-3
+    slice-aggregate-four-sums-of-4
+    four-sums-of-requires
+    slice-aggregate-highest
+    slice-aggregate-highest-2
+    slice-aggregate-highest-3
+    slice-aggregate-highest-4
+    highest-requires
+    returns)

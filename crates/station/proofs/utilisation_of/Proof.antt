@@ -1,0 +1,158 @@
+-- The pattern that governs, the sets of its row, and the verdict.
+-- Assumes nothing.
+use Prim.Native.Nat.{ℕ, _+_, _*_, _<_, _≤_, _^_}
+use native.Mathlib.Nat.{mul-le-mul}
+use native.Mathlib.Omega.{arith}
+use mathlib.Core.Path.{_≡_, refl, sym, ap, _∙_, subst}
+use lib.Dec.{leb}
+use lib.IntN.{ℤ, natAbs}
+use Rattle.integers.proofs.Machine.{back, read}
+use Rattle.standard.specs.Kinds.{kinds}
+use Rattle.standard.specs.Rows.{rows}
+use Rattle.envelope.specs.declared.Best.{Best}
+use Rattle.envelope.specs.declared.Extreme.{Extreme}
+use Rattle.envelope.specs.declared.Peak.{Peak}
+use Rattle.envelope.specs.declared.Weights.{Weights}
+use Rattle.envelope.specs.Range.{kindOf, effectOf, EffectsInRange, WeightsInRange}
+use Rattle.envelope.specs.Envelope.{governingOf, extremeIn, weighed, patternOf, patternBest, peakOf, utilisedOf}
+use Rattle.envelope.proofs.Limits.{row-below, value-fits, weighed-most}
+use Rattle.envelope.proofs.Patterns.{pattern-in-range}
+use Rattle.envelope.proofs.Utilisation.{peak-own}
+use Rattle.naming.proofs.BestSets.{places-in-range, chosen-in-range}
+use Rattle.station.proofs.Named.{sets-fit, extreme-is}
+use borrow.Author.Needs.{needs}
+use Rattle.station.proofs.utilisation_of.Statement.{statement}
+use Rattle.station.proofs.utilisation_of.Tie as tie
+
+-- the station's kinds and effects
+abbrev kind : tie.Start → ℕ → ℕ
+kind s = kindOf (s .args .kinds .now)
+
+abbrev effect : tie.Start → ℕ → ℕ → ℤ
+effect s = effectOf (s .args .effects .now)
+
+below : (s : tie.Start) (k : ℕ) → kind s k < kinds
+below s k = omega (arith, s .pre .0 .kinds-range k)
+
+in-range : (s : tie.Start) → EffectsInRange (s .args .effects .now)
+in-range s = record { long = s .pre .0 .effects-long; range = s .pre .0 .effects-range }
+
+-- the pattern that governs
+peak-is : (c : tie.After-peak-of) → let s = c .before .before .before .before in
+    c .peak-of .result ≡ peakOf (patternBest (s .args .s) (kind s) (effect s) (s .args .p)) 7
+peak-is c = let p = c .before .before in let s = p .before .before in c .peak-of .ensures .is (kind s) (below s) (p .places-of .ensures)
+
+-- its row governs the effects weighed by it
+best-is : (c : tie.After-pattern-weights) → let q = c .before .before in let s = q .before .before .before .before in
+    q .peak-of .result .best ≡ governingOf (s .args .s) (kind s) (weighed (c .pattern-weights .result) (effect s))
+best-is c =
+    let q = c .before .before in
+    let s = q .before .before .before .before in
+    let b = patternBest (s .args .s) (kind s) (effect s) (s .args .p) in
+    ap (λ (x : Peak). x .best) (peak-is q) ∙ peak-own b 7 ∙ ap (λ (x : Peak). b (x .pattern)) (sym (peak-is q))
+    ∙ ap (λ (w : Weights). governingOf (s .args .s) (kind s) (weighed w (effect s))) (sym (c .pattern-weights .ensures))
+
+weights : (c : tie.After-pattern-weights) → WeightsInRange (c .pattern-weights .result)
+weights c =
+    let q = c .before .before in
+    let s = q .before .before .before .before in
+    subst WeightsInRange (sym (c .pattern-weights .ensures)) (pattern-in-range (s .args .p) (q .peak-of .result .pattern) (s .pre .1))
+
+value-small : (c : tie.After-pattern-weights) → natAbs (c .before .before .peak-of .result .best .value) < 2 ^ 63
+value-small c =
+    let s = c .before .before .before .before .before .before in
+    subst (λ (b : Best). natAbs (b .value) < 2 ^ 63) (sym (best-is c))
+    (value-fits (s .args .s) (kind s) (weighed (c .pattern-weights .result) (effect s))
+    (weighed-most (s .args .effects .now) (c .pattern-weights .result) (in-range s) (weights c)))
+
+places-of-requires : tie.Need-places-of-requires
+places-of-requires c κs = let s = c .before in record { long = s .pre .0 .kinds-long; range = s .pre .0 .kinds-range }
+
+slice-aggregate-peak-of : tie.Need-slice-aggregate-peak-of
+slice-aggregate-peak-of c = search needs
+
+peak-of-requires : tie.Need-peak-of-requires
+peak-of-requires c κs =
+    let p = c .before in
+    let s = p .before .before in
+    (record { kind = kind s; below = below s; are = p .places-of .ensures }, in-range s, s .pre .1)
+
+pattern-weights-requires : tie.Need-pattern-weights-requires
+pattern-weights-requires c κs = search needs
+
+slice-aggregate-sets-by : tie.Need-slice-aggregate-sets-by
+slice-aggregate-sets-by c = search needs
+
+sets-by-requires : tie.Need-sets-by-requires
+sets-by-requires c κs =
+    let w = c .before in
+    let q = w .before .before in
+    let p = q .before .before in
+    let s = p .before .before in (
+      subst (λ (b : Best). b .row < rows) (sym (best-is w)) (row-below (s .args .s) (kind s) (weighed (w .pattern-weights .result) (effect s))),
+      places-in-range (p .places-of .result) (kind s) (p .places-of .ensures),
+      chosen-in-range (p .places-of .result) (kind s) (p .places-of .ensures) (q .peak-of .result .best .row),
+      in-range s,
+      weights w,
+    )
+
+extreme-requires : tie.Need-extreme-requires
+extreme-requires c κs =
+    let x = c .before in
+    let w = x .before .before in
+    let q = w .before .before in
+    let p = q .before .before in
+    let s = p .before .before in
+    sets-fit (s .args .s) (kind s) (below s) (p .places-of .result) (p .places-of .ensures) (weighed (w .pattern-weights .result) (effect s)) (q .peak-of .result .best .row) (x .sets-by .result) (x .sets-by .ensures)
+
+value-is : (c : tie.After-extreme) → c .extreme .result .value ≡ c .before .before .before .before .before .before .peak-of .result .best .value
+value-is c =
+    let w = c .before .before .before .before in
+    c .extreme .ensures .0 ∙ back (w .before .before .peak-of .result .best .value) (value-small w)
+
+extreme-small : (c : tie.After-extreme) → natAbs (c .extreme .result .value) < 2 ^ 63
+extreme-small c = subst (λ (v : ℤ). natAbs v < 2 ^ 63) (sym (value-is c)) (value-small (c .before .before .before .before))
+
+magnitude-requires : tie.Need-magnitude-requires
+magnitude-requires c κs =
+    let x = c .before in
+    rw (back (x .extreme .result .value) (extreme-small x)) (extreme-small x)
+
+denominator-of-requires : tie.Need-denominator-of-requires
+denominator-of-requires c κs = search needs
+
+returns : tie.Need-returns
+unfolding utilisedOf
+returns c =
+    let m = c .before in
+    let x = m .before .before in
+    let y = x .before .before in
+    let w = y .before .before in
+    let q = w .before .before in
+    let p = q .before .before in
+    let s = p .before .before in
+    let f : Peak → Extreme = λ z. extremeIn (s .args .s) (kind s) (weighed (patternOf (s .args .p) (z .pattern)) (effect s)) (z .best) in
+    let peak = peakOf (patternBest (s .args .s) (kind s) (effect s) (s .args .p)) 7 in
+    let is : x .extreme .result ≡ f peak =
+    extreme-is (s .args .s) (kind s) (below s) (p .places-of .result) (p .places-of .ensures) (weighed (w .pattern-weights .result) (effect s)) (q .peak-of .result .best .row) (y .sets-by .result) (y .sets-by .ensures)
+    (x .extreme .result) (q .peak-of .result .best .value) (x .extreme .ensures .1) (x .extreme .ensures .2) (x .extreme .ensures .3) (value-is x)
+    ∙ ap (λ (v : Weights). extremeIn (s .args .s) (kind s) (weighed v (effect s)) (q .peak-of .result .best)) (w .pattern-weights .ensures)
+    ∙ ap f (peak-is q) in
+    let n : m .magnitude .result ≡ natAbs (f peak .value) =
+    m .magnitude .ensures ∙ ap natAbs (back (x .extreme .result .value) (extreme-small x) ∙ ap (λ (z : Extreme). z .value) is) in
+    λ i. record { numerator = n i; denominator = c .denominator-of .ensures i; pass = leb (n i) (c .denominator-of .ensures i); row = is i .row; acting = is i .acting; low = is i .low }
+
+pub utilisation-of-spec : {M : Type 1} → statement M
+utilisation-of-spec =
+    tie.close
+    (tie.spec
+    places-of-requires
+    slice-aggregate-peak-of
+    peak-of-requires
+    pattern-weights-requires
+    slice-aggregate-sets-by
+    sets-by-requires
+    extreme-requires
+    magnitude-requires
+    denominator-of-requires
+    returns)

@@ -1,0 +1,117 @@
+ghost use mathlib.Core.Path.{_≡_};
+ghost use Prim.Native.Nat.{_<_, _^_};
+ghost use Rattle.standard.specs.Combination.{cases, denominatorOf};
+ghost use Rattle.envelope.specs.Range.{kindOf, effectOf, StationInRange, EffectsInRange, CapacitiesInRange};
+ghost use Rattle.envelope.specs.Envelope.{extremesOf, signedBy, patternOf, utilisedOf};
+ghost use Rattle.envelope.specs.Places.{Placed};
+ghost use Rattle.station.specs.Peaks.{PeakOf};
+use envelope::Extreme;
+use envelope::Extremes;
+use envelope::Peak;
+use envelope::Utilised;
+use envelope::Weights;
+use naming::Sets;
+use standard::Capacities;
+use standard::Settings;
+
+// A governing number with its combination, whose sets are of 32 cases.
+fn extreme(value: i64, row: usize, sets: Sets) -> Extreme
+    requires { ⌜ (sets .acting < 2 ^ cases) × (sets .low < 2 ^ cases) ⌝ }
+    ensures { λ r. ⌜ (r .value ≡ value) × (r .row ≡ row) × (r .acting ≡ sets .acting) × (r .low ≡ sets .low) ⌝ }
+{
+    let acting = sets.acting as u32;
+    let low = sets.low as u32;
+    Extreme {
+        value,
+        row,
+        acting,
+        low,
+    }
+}
+
+// The maximum and the minimum of a component, from one pass over the cases.
+pub fn extremes_of(s: Settings, kinds: &[u8], effects: &[i16], component: usize) -> Extremes
+    requires { ⌜ StationInRange (now kinds) (now effects) × (component < 3) ⌝ }
+    ensures { λ r. ⌜ r ≡ extremesOf s (kindOf (now (kinds .entry))) (λ k. effectOf (now (effects .entry)) k component) ⌝ }
+{
+    let places = sums::places_of(kinds);
+    let sums = sums::sums_of(&places, effects, component);
+    let most = governing::toward(s, &sums, 0, 1);
+    let least = governing::toward(s, &sums, 1, 0);
+    let above = naming::sets_at(most.row, &places, effects, component, false);
+    let below = naming::sets_at(least.row, &places, effects, component, true);
+    let value = integers::negated(least.value);
+    Extremes {
+        maximum: extreme(most.value, most.row, above),
+        minimum: extreme(value, least.row, below),
+    }
+}
+
+// A weight, with a minus sign or without.
+fn signed_by(minus: bool, x: u64) -> i64
+    requires { ⌜ x < 2 ^ 63 ⌝ }
+    ensures { λ r. ⌜ r ≡ signedBy minus x ⌝ }
+{
+    let w = integers::signed(x);
+    if minus { integers::negated(w) } else { w }
+}
+
+// The weights of the numerator for a pattern of signs.
+fn pattern_weights(p: Capacities, pattern: usize) -> Weights
+    ensures { λ r. ⌜ r ≡ patternOf p pattern ⌝ }
+{
+    let n = p.n as u64;
+    let y = p.y as u64;
+    let z = p.z as u64;
+    Weights {
+        n: signed_by(pattern % 2 == 1, y * z),
+        y: signed_by(pattern / 2 % 2 == 1, n * z),
+        z: signed_by(pattern / 4 % 2 == 1, n * y),
+    }
+}
+
+// The pattern of signs with the greatest numerator, from one pass over the cases.
+fn peak_of(s: Settings, places: &[u64], effects: &[i16], p: Capacities) -> Peak
+    requires { ⌜ Placed (now places) × EffectsInRange (now effects) × CapacitiesInRange p ⌝ }
+    ensures { λ r. ⌜ PeakOf r s (now (places .entry)) (effectOf (now (effects .entry))) p ⌝ }
+{
+    let mut s0 = [0u64; 24];
+    let mut s1 = [0u64; 24];
+    let mut s2 = [0u64; 24];
+    let mut s3 = [0u64; 24];
+    let w = pattern_weights(p, 0);
+    sums::four_sums_of(&mut s0, &mut s1, &mut s2, &mut s3, places, effects, w);
+    governing::highest(s, &s0, &s1, &s2, &s3)
+}
+
+fn denominator_of(p: Capacities) -> u64
+    ensures { λ r. ⌜ r ≡ denominatorOf p ⌝ }
+{
+    let n = p.n as u64;
+    let y = p.y as u64;
+    let z = p.z as u64;
+    1000 * (n * y * z)
+}
+
+// The utilisation of a station.
+pub fn utilisation_of(s: Settings, kinds: &[u8], effects: &[i16], p: Capacities) -> Utilised
+    requires { ⌜ StationInRange (now kinds) (now effects) × CapacitiesInRange p ⌝ }
+    ensures { λ r. ⌜ r ≡ utilisedOf s (kindOf (now (kinds .entry))) (effectOf (now (effects .entry))) p ⌝ }
+{
+    let places = sums::places_of(kinds);
+    let q = peak_of(s, &places, effects, p);
+    let best = q.best;
+    let w = pattern_weights(p, q.pattern);
+    let sets = naming::sets_by(best.row, &places, effects, w);
+    let x = extreme(best.value, best.row, sets);
+    let numerator = integers::magnitude(x.value);
+    let denominator = denominator_of(p);
+    Utilised {
+        numerator,
+        denominator,
+        pass: numerator <= denominator,
+        row: x.row,
+        acting: x.acting,
+        low: x.low,
+    }
+}

@@ -1,0 +1,106 @@
+-- The loop holds the sums of the kinds below `kind`.
+-- Assumes nothing.
+use borrow.Author.Needs.{needs}
+use Prim.Native.Nat.{ℕ, _+_, _*_, _-_, _<_, _≤_, _^_}
+use native.Mathlib.Omega.{arith}
+use mathlib.Core.Bool.{Bool}
+use mathlib.Core.Path.{_≡_, refl, sym, ap, _∙_, subst}
+use mathlib.Core.List.{List}
+use lib.IntN.{ℤ}
+use lib.ListN.{length, getD}
+use Rattle.integers.specs.Sets.{has}
+use Rattle.standard.specs.Combination.{cases}
+use Rattle.standard.specs.Kinds.{kinds}
+use Rattle.envelope.specs.Range.{effectOf}
+use Rattle.sums.specs.Sums.{SumsOf, SidesInRange, sidesIn}
+use Rattle.sums.proofs.Gathered.{no-kinds, kind-more}
+use Rattle.sums.proofs.Held.{sides-in-range}
+use Rattle.sums.proofs.sums_of.Statement.{statement}
+use Rattle.sums.proofs.sums_of.Tie as tie
+
+abbrev Inv-loop : tie.InvT-loop
+Inv-loop places effects component sums₀ kind₀ sums kind = (0 < kind) × (kind ≤ kinds) × SumsOf sums places (λ k. effectOf effects k component) kind
+
+abbrev μ-loop : tie.MeasureT-loop
+μ-loop places effects component sums₀ kind₀ sums kind = kinds - kind
+
+loop-holds : tie.Need-loop-holds Inv-loop μ-loop
+loop-holds c = (omega arith, omega arith, no-kinds _ _ _ refl)
+
+acts-alone-requires : tie.Need-acts-alone-requires Inv-loop μ-loop
+acts-alone-requires c κs = search needs
+
+mul-sides-of : tie.Need-mul-sides-of Inv-loop μ-loop
+mul-sides-of c = search needs
+
+shared-slice-read-sides-of : tie.Need-shared-slice-read-sides-of Inv-loop μ-loop
+shared-slice-read-sides-of c = search needs
+
+sides-of-requires : tie.Need-sides-of-requires Inv-loop μ-loop
+sides-of-requires c κs =
+    let h = c .before .before .before in
+    let s = h .before .before in
+    (s .pre .0 .each (h .loop .kind) (h .loop .inv .0) (omega arith), s .pre .1, s .pre .2)
+
+slice-aggregate-put-sides : tie.Need-slice-aggregate-put-sides Inv-loop μ-loop
+slice-aggregate-put-sides c = search needs
+
+put-sides-requires : tie.Need-put-sides-requires Inv-loop μ-loop
+put-sides-requires c κs =
+    let x = c .before in
+    let h = x .before .before .before .before in
+    let s = h .before .before in
+    let a = s .args in
+    let e : ℕ → ℤ = λ k. effectOf (a .effects .now) k (a .component) in (
+      h .loop .inv .2 .long,
+      omega arith,
+      subst SidesInRange (sym (x .sides-of .ensures))
+          (sides-in-range _ (has (getD (a .places .now) (h .loop .kind) 0)) e (λ k. omega (arith, s .pre .1 .range (k * 3 + a .component))) cases (omega arith)),
+    )
+
+add-kind : tie.Need-add-kind Inv-loop μ-loop
+add-kind c = search needs
+
+loop-less : tie.Need-loop-less Inv-loop μ-loop
+loop-less c = search needs
+
+loop-again : tie.Need-loop-again Inv-loop μ-loop
+loop-again c =
+    let p = c .before in
+    let x = p .before .before in
+    let q = x .before .before in
+    let h = q .before .before in
+    let s = h .before .before in
+    let e : ℕ → ℤ = λ k. effectOf (s .args .effects .now) k (s .args .component) in
+    let i = h .loop .inv in (
+      omega arith,
+      omega arith,
+      subst (λ (l : List ℕ). SumsOf l (s .args .places .now) e (h .loop .kind + 1)) (sym (p .put-sides .ensures))
+          (kind-more (h .loop .sums) (s .args .places .now) e (h .loop .kind) (i .2) (omega arith) (x .sides-of .result)
+          (x .sides-of .ensures ∙ ap (λ (t : Bool). sidesIn t (has (getD (s .args .places .now) (h .loop .kind) 0)) e cases) (q .acts-alone .ensures))),
+    )
+
+returns : tie.Need-returns Inv-loop μ-loop
+returns c =
+    let h = c .before in
+    let s = h .before .before in
+    let end : h .loop .kind ≡ kinds = omega arith in
+    subst (SumsOf (h .loop .sums) (s .args .places .now) (λ k. effectOf (s .args .effects .now) k (s .args .component))) end (h .loop .inv .2)
+
+pub sums-of-spec : {M : Type 1} → statement M
+sums-of-spec =
+    tie.close
+    (tie.spec
+    Inv-loop
+    μ-loop
+    loop-holds
+    acts-alone-requires
+    mul-sides-of
+    shared-slice-read-sides-of
+    sides-of-requires
+    slice-aggregate-put-sides
+    put-sides-requires
+    add-kind
+    loop-less
+    loop-again
+    returns)

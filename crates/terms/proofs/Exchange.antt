@@ -1,0 +1,228 @@
+-- A row's value from the terms is its maximum over the cases, for the effects and for the effects negated; and the terms are in range.
+-- Assumes nothing.
+use Prim.Native.Nat.{ℕ, zero, suc, _+_, _*_, _<_, _≤_, max}
+use native.Mathlib.Nat.{mul-le-mul-left, le-antisymm, le-trans}
+use native.Mathlib.Omega.{arith}
+use mathlib.Core.Path.{_≡_, refl, sym, ap, _∙_, subst}
+use mathlib.Core.Bool.{Bool, true, false, false≢true}
+use mathlib.Core.List.{List}
+use borrow.Author.Tests.{ne-eqb}
+use lib.Dec.{eqb}
+use lib.IntN.{ℤ, pos, negℤ, _+ℤ_, _-ℤ_, natAbs}
+use Rattle.integers.specs.Sums.{when, sum, most, up, down}
+use Rattle.integers.proofs.Signs.{abs-add, abs-negated, neg-up, neg-down}
+use Rattle.integers.proofs.Sums.{eqb-cases, sum-same, sum-mono, sum-only, sum-swap, sum-times, sum-most, most-ge, most-le, most-same, most-times}
+use Rattle.standard.specs.declared.Settings.{Settings}
+use Rattle.standard.specs.declared.Class.{Class}
+use Rattle.standard.specs.declared.Class.the-variants.{Always, Subset, OneOf, Unknown}
+use Rattle.standard.specs.Kinds.{classOf, kinds, groups}
+use Rattle.standard.specs.Rows.{factorOf}
+use Rattle.standard.specs.Combination.{cases}
+use Rattle.optimum.specs.Row.{greatestBy, leastBy, groupBy, lowerOf, greatestOf, leastOf, groupOf, rowMaximum, worthOf}
+use Rattle.envelope.specs.Range.{effectMost}
+use Rattle.sums.specs.Sums.{partOf, ofKind, alone, heldBy, heldOf, heldAt, Summed}
+use Rattle.terms.specs.Value.{termsBy, termsOf, TermsInRange, valueOf}
+use Rattle.terms.proofs.Lines.{byGroup, gainBy, lossBy, by-terms}
+use Rattle.sums.proofs.Held.{held-le, part-le}
+
+module _ (n K : ℕ) (kind p : ℕ → ℕ) (below : (k : ℕ) → kind k < K) where
+  -- a weighted sum over the kinds is one over the cases
+  pub sum-of-kinds : (w : ℕ → ℕ) → sum K (λ j. w j * sum n (ofKind kind p j)) ≡ sum n (λ k. w (kind k) * p k)
+  sum-of-kinds w =
+      sum-same K (λ j. w j * sum n (ofKind kind p j)) (λ j. sum n (λ k. w j * ofKind kind p j k)) (λ j l. sym (sum-times n (w j) (ofKind kind p j)))
+      ∙ sum-swap K n (λ j k. w j * ofKind kind p j k)
+      ∙ sum-same n (λ k. sum K (λ j. w j * ofKind kind p j k)) (λ k. w (kind k) * p k)
+      (λ k l. sum-only K (kind k) (λ j. w j * ofKind kind p j k) (below k)
+      (λ j ne. eqb-cases (kind k) j (λ t. w j * when t (p k) ≡ 0) (λ e. absurd (ne (sym e))) (λ _. omega arith))
+      ∙ eqb-cases (kind k) (kind k) (λ t. w (kind k) * when t (p k) ≡ w (kind k) * p k) (λ _. refl) (λ ne. absurd (ne refl)))
+
+  -- the best of a group over its kinds is the best over its cases
+  module _ (grp f : ℕ → ℕ) (g : ℕ) where
+    abbrev byKind : ℕ → ℕ
+    byKind j = when (eqb (grp j) g) (f j * most n (ofKind kind p j))
+
+    abbrev byCase : ℕ → ℕ
+    byCase k = when (eqb (grp (kind k)) g) (f (kind k) * p k)
+
+    -- a kind adds no more than the best case
+    kind-le : (j : ℕ) → byKind j ≤ most n byCase
+    kind-le j =
+        eqb-cases (grp j) g (λ t. when t (f j * most n (ofKind kind p j)) ≤ most n byCase)
+        (λ e. subst (λ (x : ℕ). x ≤ most n byCase) (most-times n (f j) (ofKind kind p j))
+        (most-le n (most n byCase) (λ k. f j * ofKind kind p j k)
+        (λ k l. eqb-cases (kind k) j (λ t. f j * when t (p k) ≤ most n byCase)
+        (λ q. le-trans (at-case j k e q) (most-ge n k byCase l)) (λ _. omega arith))))
+        (λ _. omega arith)
+      where
+        at-case : (j k : ℕ) → grp j ≡ g → kind k ≡ j → f j * p k ≤ when (eqb (grp (kind k)) g) (f (kind k) * p k)
+        at-case j k e q =
+            subst (λ (i : ℕ). f i * p k ≤ when (eqb (grp (kind k)) g) (f (kind k) * p k)) q
+            (eqb-cases (grp (kind k)) g (λ t. f (kind k) * p k ≤ when t (f (kind k) * p k)) (λ _. omega arith)
+            (λ ne. absurd (ne (ap grp q ∙ e))))
+
+    case-le : (k : ℕ) → k < n → byCase k ≤ most K byKind
+    case-le k l = le-trans at-kind (most-ge K (kind k) byKind (below k))
+      where
+        own : p k ≤ ofKind kind p (kind k) k
+        own = eqb-cases (kind k) (kind k) (λ t. p k ≤ when t (p k)) (λ _. omega arith) (λ ne. absurd (ne refl))
+
+        at-kind : byCase k ≤ byKind (kind k)
+        at-kind = eqb-cases (grp (kind k)) g (λ t. when t (f (kind k) * p k) ≤ when t (f (kind k) * most n (ofKind kind p (kind k))))
+            (λ _. mul-le-mul-left (f (kind k)) (le-trans own (most-ge n k (ofKind kind p (kind k)) l))) (λ _. omega arith)
+
+    pub most-of-kinds : most K byKind ≡ most n byCase
+    most-of-kinds = le-antisymm (most-le K (most n byCase) byKind (λ j l. kind-le j)) (most-le n (most K byKind) byCase case-le)
+
+-- a kind of a group gives nothing by itself, and another kind stands in no group
+alone-none : (q : Class) (f : ℕ) → alone q ≡ true → (greatestBy q f ≡ 0) × (leastBy q f ≡ 0)
+alone-none Always f e = absurd (false≢true e)
+alone-none Subset f e = absurd (false≢true e)
+alone-none (OneOf g) f e = (refl, refl)
+alone-none Unknown f e = absurd (false≢true e)
+
+groupless : (q : Class) → alone q ≡ false → groupBy q ≡ groups
+groupless Always e = refl
+groupless Subset e = refl
+groupless (OneOf g) e = absurd (false≢true (sym e))
+groupless Unknown e = refl
+
+module _ (s : Settings) (row : ℕ) where
+  alone-gain : (j : ℕ) → alone (classOf j) ≡ true → greatestOf s row j ≡ 0
+  unfolding greatestOf
+  alone-gain j e = alone-none (classOf j) (factorOf s row j) e .0
+
+  alone-loss : (j : ℕ) → alone (classOf j) ≡ true → leastOf s row j ≡ 0
+  unfolding leastOf
+  alone-loss j e = alone-none (classOf j) (lowerOf s row j) e .1
+
+  no-gain : greatestOf s row 0 ≡ 0
+  unfolding greatestOf classOf
+  no-gain = refl
+
+  no-loss : leastOf s row 0 ≡ 0
+  unfolding leastOf classOf
+  no-loss = refl
+
+-- u holds the parts p of the cases by kind
+Holds : ℕ → (kind p u : ℕ → ℕ) → Type 0
+Holds n kind p u = (j : ℕ) → 0 < j → j < kinds → u j ≡ heldOf j n (ofKind kind p j)
+
+module _ (n : ℕ) (kind p u : ℕ → ℕ) (h : Holds n kind p u) where
+  -- a weight that the kinds of groups do not have finds sums
+  weighs : (w : ℕ → ℕ) → w 0 ≡ 0 → ((j : ℕ) → alone (classOf j) ≡ true → w j ≡ 0) → (j : ℕ) → j < kinds → w j * u j ≡ w j * sum n (ofKind kind p j)
+  unfolding heldBy Holds
+  weighs w none late zero l = rw none (omega arith)
+  weighs w none late (suc j) l = go (alone (classOf (suc j))) refl
+    where
+      go : (t : Bool) → alone (classOf (suc j)) ≡ t → w (suc j) * u (suc j) ≡ w (suc j) * sum n (ofKind kind p (suc j))
+      go true e = rw (late (suc j) e) (omega arith)
+      go false e = ap (λ (x : ℕ). w (suc j) * x) (h (suc j) (omega arith) l ∙ rw e)
+
+  -- and a group finds maxima
+  leads : (f : ℕ → ℕ) (g : ℕ) → g < groups → (j : ℕ) → j < kinds →
+      when (eqb (groupOf j) g) (f j * u j) ≡ when (eqb (groupOf j) g) (f j * most n (ofKind kind p j))
+  unfolding heldBy Holds groupOf classOf
+  leads f g k zero l = rw (ne-eqb groups g (λ q. omega arith))
+  leads f g k (suc j) l = go (alone (classOf (suc j))) refl
+    where
+      go : (t : Bool) → alone (classOf (suc j)) ≡ t → when (eqb (groupOf (suc j)) g) (f (suc j) * u (suc j)) ≡ when (eqb (groupOf (suc j)) g) (f (suc j) * most n (ofKind kind p (suc j)))
+      go true e = ap (λ (x : ℕ). when (eqb (groupOf (suc j)) g) (f (suc j) * x)) (h (suc j) (omega arith) l ∙ rw e)
+      go false e = rw (groupless (classOf (suc j)) e, ne-eqb groups g (λ q. omega arith))
+
+-- the value of a row from what is held above zero and below
+module _ (kind : ℕ → ℕ) (e : ℕ → ℤ) (below : (k : ℕ) → kind k < kinds) (u d : ℕ → ℕ)
+    (hu : Holds cases kind (λ k. up (e k)) u) (hd : Holds cases kind (λ k. down (e k)) d) where
+  held-value : (s : Settings) (row : ℕ) → valueOf s row (termsBy u d) ≡ rowMaximum s row kind e
+  unfolding rowMaximum
+  held-value s row = by-terms s row u d ∙ (λ i. pos (gain i) -ℤ pos (loss i))
+    where
+      loss : lossBy s row d ≡ sum cases (λ k. leastOf s row (kind k) * down (e k))
+      loss =
+          sum-same kinds (λ j. leastOf s row j * d j) (λ j. leastOf s row j * sum cases (ofKind kind (λ k. down (e k)) j))
+          (weighs cases kind (λ k. down (e k)) d hd (leastOf s row) (no-loss s row) (alone-loss s row))
+          ∙ sum-of-kinds cases kinds kind (λ k. down (e k)) below (leastOf s row)
+
+      own : sum kinds (λ j. greatestOf s row j * u j) ≡ sum cases (λ k. greatestOf s row (kind k) * up (e k))
+      own =
+          sum-same kinds (λ j. greatestOf s row j * u j) (λ j. greatestOf s row j * sum cases (ofKind kind (λ k. up (e k)) j))
+          (weighs cases kind (λ k. up (e k)) u hu (greatestOf s row) (no-gain s row) (alone-gain s row))
+          ∙ sum-of-kinds cases kinds kind (λ k. up (e k)) below (greatestOf s row)
+
+      led : (g : ℕ) → g < groups → most kinds (byGroup s row u g) ≡ most cases (worthOf s row kind e g)
+      led g l =
+          most-same kinds (byGroup s row u g) (λ j. when (eqb (groupOf j) g) (factorOf s row j * most cases (ofKind kind (λ k. up (e k)) j)))
+          (leads cases kind (λ k. up (e k)) u hu (factorOf s row) g l)
+          ∙ most-of-kinds cases kinds kind (λ k. up (e k)) below groupOf (factorOf s row) g
+
+      gain : gainBy s row u ≡ sum cases (λ k. greatestOf s row (kind k) * up (e k)) + sum groups (λ g. most cases (worthOf s row kind e g))
+      gain = λ i. own i + sum-same groups (λ g. most kinds (byGroup s row u g)) (λ g. most cases (worthOf s row kind e g)) led i
+
+module _ (sums : List ℕ) (kind : ℕ → ℕ) (e : ℕ → ℤ) (below : (k : ℕ) → kind k < kinds) (h : Summed sums kind e) where
+  holds : (t : ℕ) → t < 2 → Holds cases kind (λ k. partOf t (e k)) (λ j. heldAt sums j t)
+  unfolding Holds
+  holds t m = λ j p l. h .held j t p l m
+
+  -- as they are, and negated: what is above zero of the one is below zero of the other
+  pub value-is : (s : Settings) (row : ℕ) → valueOf s row (termsOf sums 0 1) ≡ rowMaximum s row kind e
+  value-is s row = held-value kind e below (λ j. heldAt sums j 0) (λ j. heldAt sums j 1) (holds 0 (omega arith)) (holds 1 (omega arith)) s row
+
+  pub negated-value-is : (s : Settings) (row : ℕ) → valueOf s row (termsOf sums 1 0) ≡ rowMaximum s row kind (λ k. negℤ (e k))
+  negated-value-is s row =
+      held-value kind (λ k. negℤ (e k)) below (λ j. heldAt sums j 1) (λ j. heldAt sums j 0)
+      (subst (λ (p : ℕ → ℕ). Holds cases kind p (λ j. heldAt sums j 1)) (λ i k. sym (neg-up (e k)) i) (holds 1 (omega arith)))
+      (subst (λ (p : ℕ → ℕ). Holds cases kind p (λ j. heldAt sums j 0)) (λ i k. sym (neg-down (e k)) i) (holds 0 (omega arith))) s row
+
+-- ---- the sizes of the terms
+total : (H : ℕ → ℕ) (m : ℕ) → sum kinds H ≤ m → H 1 + H 2 + H 3 + H 4 + H 5 + H 6 + H 7 + H 8 + H 9 + H 10 + H 11 ≤ m
+unfolding sum
+total H m h = omega arith
+
+size-of-difference : (a b : ℕ) → natAbs (pos a +ℤ negℤ (pos b)) ≤ a + b
+size-of-difference a b = omega (arith, abs-add (pos a) (negℤ (pos b)), abs-negated (pos b))
+
+module _ (n : ℕ) (kind p : ℕ → ℕ) (below : (k : ℕ) → kind k < kinds) (small : (k : ℕ) → p k ≤ effectMost) where
+  all-most : sum kinds (λ j. heldOf j n (ofKind kind p j)) ≤ n * effectMost
+  all-most =
+      omega (
+        arith,
+        sum-mono kinds (λ j. heldOf j n (ofKind kind p j)) (λ j. 1 * sum n (ofKind kind p j)) (λ j l. omega (arith, held-le (alone (classOf j)) n (ofKind kind p j))),
+        sum-of-kinds n kinds kind p below (λ j. 1),
+        sum-most n effectMost (λ k. 1 * p k) (λ k l. omega (arith, small k)),
+      )
+
+  held-total : (u : ℕ → ℕ) → Holds n kind p u → u 1 + u 2 + u 3 + u 4 + u 5 + u 6 + u 7 + u 8 + u 9 + u 10 + u 11 ≤ n * effectMost
+  unfolding Holds
+  held-total u h =
+      omega (
+        arith,
+        total (λ j. heldOf j n (ofKind kind p j)) (n * effectMost) all-most,
+        h 1 (omega arith) (omega arith),
+        h 2 (omega arith) (omega arith),
+        h 3 (omega arith) (omega arith),
+        h 4 (omega arith) (omega arith),
+        h 5 (omega arith) (omega arith),
+        h 6 (omega arith) (omega arith),
+        h 7 (omega arith) (omega arith),
+        h 8 (omega arith) (omega arith),
+        h 9 (omega arith) (omega arith),
+        h 10 (omega arith) (omega arith),
+        h 11 (omega arith) (omega arith),
+      )
+
+small-terms : (u d : ℕ → ℕ) (m : ℕ) → u 1 + u 2 + u 3 + u 4 + u 5 + u 6 + u 7 + u 8 + u 9 + u 10 + u 11 ≤ m →
+    d 1 + d 2 + d 3 + d 4 + d 5 + d 6 + d 7 + d 8 + d 9 + d 10 + d 11 ≤ m → m + m ≤ 64 * effectMost → TermsInRange (termsBy u d)
+unfolding termsBy
+small-terms u d m hu hd l =
+    record {
+      small = omega (arith, size-of-difference (u 1) (d 1), size-of-difference (u 2) (d 2), abs-negated (pos (d 3)));
+      roof-up = refl;
+      snow-up = refl;
+    }
+
+pub terms-in-range : (sums : List ℕ) (kind : ℕ → ℕ) (e : ℕ → ℤ) → ((k : ℕ) → kind k < kinds) → Summed sums kind e → ((k : ℕ) → natAbs (e k) ≤ effectMost) →
+    (over under : ℕ) → over < 2 → under < 2 → TermsInRange (termsOf sums over under)
+terms-in-range sums kind e below h small over under a b =
+    small-terms (λ j. heldAt sums j over) (λ j. heldAt sums j under) (cases * effectMost) (side over a) (side under b) (omega arith)
+  where
+    side : (t : ℕ) → t < 2 → let u : ℕ → ℕ = λ j. heldAt sums j t in u 1 + u 2 + u 3 + u 4 + u 5 + u 6 + u 7 + u 8 + u 9 + u 10 + u 11 ≤ cases * effectMost
+    side t m = held-total cases kind (λ k. partOf t (e k)) below (λ k. omega (arith, part-le t (e k), small k)) (λ j. heldAt sums j t) (holds sums kind e below h t m)

@@ -1,0 +1,179 @@
+-- A row's value from the terms is the sum over the kinds of what the factors give.
+-- Assumes nothing.
+use Prim.Native.Nat.{ℕ, _+_, _*_, _≤_, max, min}
+use native.Mathlib.Nat.{mul-le-mul-left}
+use native.Mathlib.Omega.{arith}
+use mathlib.Core.Path.{_≡_, refl, sym, ap, _∙_}
+use lib.Dec.{eqb}
+use lib.IntN.{ℤ, pos, negℤ, _+ℤ_, _-ℤ_, _*ℤ_}
+use Rattle.integers.specs.Sums.{when, sum, most, up, down}
+use Rattle.integers.proofs.Signs.{eq-in, add-parts, neg-up, neg-down, mul-up, mul-down}
+use Rattle.integers.proofs.Sums.{ltb-cases}
+use Rattle.standard.specs.declared.Settings.{Settings}
+use Rattle.standard.specs.Kinds.{classOf, kinds, groups}
+use Rattle.standard.specs.Rows.{factorOf}
+use Rattle.optimum.specs.Row.{lowerOf, greatestOf, leastOf, groupOf}
+use Rattle.terms.specs.Value.{termsBy, ownOf, valueOf}
+
+-- over the kinds, from what is held of each above zero and below
+abbrev pub byGroup : Settings → ℕ → (ℕ → ℕ) → ℕ → ℕ → ℕ
+byGroup s row u g j = when (eqb (groupOf j) g) (factorOf s row j * u j)
+
+abbrev pub gainBy : Settings → ℕ → (ℕ → ℕ) → ℕ
+gainBy s row u = sum kinds (λ j. greatestOf s row j * u j) + sum groups (λ g. most kinds (byGroup s row u g))
+
+abbrev pub lossBy : Settings → ℕ → (ℕ → ℕ) → ℕ
+lossBy s row d = sum kinds (λ j. leastOf s row j * d j)
+
+-- z is g less l
+Is : ℤ → ℕ → ℕ → Type 0
+Is z g l = up z + l ≡ g + down z
+
+with-term : (z x : ℤ) (f g l a b : ℕ) → Is z g l → Is x a b → Is (z +ℤ pos f *ℤ x) (g + f * a) (l + f * b)
+unfolding Is
+with-term z x f g l a b h k = omega (arith, add-parts z (pos f *ℤ x), mul-up f x, mul-down f x, ap (λ (n : ℕ). f * n) k)
+
+with-pos : (z : ℤ) (g l m : ℕ) → Is z g l → Is (z +ℤ pos m) (g + m) l
+unfolding Is
+with-pos z g l m h = omega (arith, add-parts z (pos m))
+
+less : (a b : ℕ) → Is (pos a +ℤ negℤ (pos b)) a b
+unfolding Is
+less a b = omega (arith, add-parts (pos a) (negℤ (pos b)), neg-up (pos b), neg-down (pos b))
+
+none-less : (b : ℕ) → Is (negℤ (pos b)) 0 b
+unfolding Is
+none-less b = omega (arith, neg-up (pos b), neg-down (pos b))
+
+just : (a : ℕ) → Is (pos a) a 0
+unfolding Is
+just a = omega arith
+
+is-less : (z : ℤ) (g l : ℕ) → Is z g l → z ≡ pos g -ℤ pos l
+unfolding Is
+is-less z g l h = eq-in z (pos g -ℤ pos l) (omega (arith, add-parts (pos g) (negℤ (pos l)), neg-up (pos l), neg-down (pos l)))
+
+times-max : (f a b : ℕ) → f * max a b ≡ max (f * a) (f * b)
+times-max f a b = ltb-cases a b (λ _. f * max a b ≡ max (f * a) (f * b)) (λ l. up-to a b (omega arith)) (λ l. down-to a b l)
+  where
+    up-to : (a b : ℕ) → a ≤ b → f * max a b ≡ max (f * a) (f * b)
+    up-to a b l = let m : max a b ≡ b = omega arith in let k : f * a ≤ f * b = mul-le-mul-left f l in rw m (omega arith)
+
+    down-to : (a b : ℕ) → b ≤ a → f * max a b ≡ max (f * a) (f * b)
+    down-to a b l = let m : max a b ≡ a = omega arith in let k : f * b ≤ f * a = mul-le-mul-left f l in rw m (omega arith)
+
+-- three among kinds that give nothing
+amid : (z a b c : ℕ) → z ≡ 0 → max (max (max (max (max (max z a) b) c) 0) 0) 0 ≡ max (max a b) c
+amid z a b c e = after (max (max (max z a) b) c) ∙ ap (λ (x : ℕ). max (max x b) c) before
+  where
+    before : max z a ≡ a
+    before = omega arith
+
+    after : (x : ℕ) → max (max (max x 0) 0) 0 ≡ x
+    after x = omega arith
+
+module _ (s : Settings) (row : ℕ) (u d : ℕ → ℕ) where
+  abbrev f : ℕ → ℕ
+  f j = factorOf s row j
+
+  -- Hp and Hv have one factor, and so have Lr and R
+  earth-one : f 4 ≡ f 3
+  unfolding factorOf
+  earth-one = refl
+
+  roof-one : f 8 ≡ f 6
+  unfolding factorOf
+  roof-one = refl
+
+  loss-is : lossBy s row d ≡ 0 + f 1 * d 1 + f 2 * d 2 + f 3 * 0 + lowerOf s row 3 * d 3 + f 5 * 0 + f 9 * 0 + f 10 * 0 + f 11 * 0
+  unfolding sum leastOf lowerOf classOf
+  loss-is = omega arith
+
+  own-is : sum kinds (λ j. greatestOf s row j * u j) ≡ f 1 * u 1 + f 2 * u 2 + f 3 * u 3 + f 4 * u 4 + f 5 * u 5
+  unfolding sum greatestOf classOf
+  own-is = omega arith
+
+  roof-first : most 6 (byGroup s row u 0) ≡ 0
+  unfolding most groupOf classOf
+  roof-first = omega arith
+
+  roof-is : most kinds (byGroup s row u 0) ≡ max (max (f 6 * u 6) (f 7 * u 7)) (f 8 * u 8)
+  unfolding most groupOf classOf
+  roof-is = amid (most 6 (byGroup s row u 0)) (f 6 * u 6) (f 7 * u 7) (f 8 * u 8) roof-first
+
+  wind-is : most kinds (byGroup s row u 1) ≡ f 9 * u 9
+  unfolding most groupOf classOf
+  wind-is = omega arith
+
+  quake-is : most kinds (byGroup s row u 2) ≡ f 10 * u 10
+  unfolding most groupOf classOf
+  quake-is = omega arith
+
+  flood-is : most kinds (byGroup s row u 3) ≡ f 11 * u 11
+  unfolding most groupOf classOf
+  flood-is = omega arith
+
+  groups-are : sum groups (λ g. most kinds (byGroup s row u g))
+      ≡ most kinds (byGroup s row u 0) + most kinds (byGroup s row u 1) + most kinds (byGroup s row u 2) + most kinds (byGroup s row u 3)
+  unfolding sum
+  groups-are = omega arith
+
+  gain-is : gainBy s row u ≡
+      0 + f 1 * u 1 + f 2 * u 2 + f 3 * (u 3 + u 4) + lowerOf s row 3 * 0 + f 5 * u 5 + max (0 + f 6 * max (u 6) (u 8)) (0 + f 7 * u 7)
+      + f 9 * u 9 + f 10 * u 10 + f 11 * u 11
+  gain-is =
+      omega (
+        arith,
+        own-is,
+        groups-are,
+        roof-is,
+        wind-is,
+        quake-is,
+        flood-is,
+        times-max (f 6) (u 6) (u 8),
+        ap (λ (x : ℕ). x * u 4) earth-one,
+        ap (λ (x : ℕ). x * u 8) roof-one,
+      )
+
+  -- the line, term by term
+  pub by-terms : valueOf s row (termsBy u d) ≡ pos (gainBy s row u) -ℤ pos (lossBy s row d)
+  unfolding valueOf ownOf termsBy
+  by-terms =
+      let z1 : ℤ = pos 0 +ℤ pos (f 1) *ℤ (pos (u 1) +ℤ negℤ (pos (d 1))) in
+      let g1 : ℕ = 0 + f 1 * u 1 in
+      let l1 : ℕ = 0 + f 1 * d 1 in
+      let h1 : Is z1 g1 l1 = with-term (pos 0) (pos (u 1) +ℤ negℤ (pos (d 1))) (f 1) (0) (0) (u 1) (d 1) (just 0) (less (u 1) (d 1)) in
+      let z2 : ℤ = z1 +ℤ pos (f 2) *ℤ (pos (u 2) +ℤ negℤ (pos (d 2))) in
+      let g2 : ℕ = g1 + f 2 * u 2 in
+      let l2 : ℕ = l1 + f 2 * d 2 in
+      let h2 : Is z2 g2 l2 = with-term (z1) (pos (u 2) +ℤ negℤ (pos (d 2))) (f 2) (g1) (l1) (u 2) (d 2) (h1) (less (u 2) (d 2)) in
+      let z3 : ℤ = z2 +ℤ pos (f 3) *ℤ (pos (u 3 + u 4)) in
+      let g3 : ℕ = g2 + f 3 * (u 3 + u 4) in
+      let l3 : ℕ = l2 + f 3 * 0 in
+      let h3 : Is z3 g3 l3 = with-term (z2) (pos (u 3 + u 4)) (f 3) (g2) (l2) (u 3 + u 4) (0) (h2) (just (u 3 + u 4)) in
+      let z4 : ℤ = z3 +ℤ pos (lowerOf s row 3) *ℤ (negℤ (pos (d 3))) in
+      let g4 : ℕ = g3 + lowerOf s row 3 * 0 in
+      let l4 : ℕ = l3 + lowerOf s row 3 * d 3 in
+      let h4 : Is z4 g4 l4 = with-term (z3) (negℤ (pos (d 3))) (lowerOf s row 3) (g3) (l3) (0) (d 3) (h3) (none-less (d 3)) in
+      let z5 : ℤ = z4 +ℤ pos (f 5) *ℤ (pos (u 5)) in
+      let g5 : ℕ = g4 + f 5 * u 5 in
+      let l5 : ℕ = l4 + f 5 * 0 in
+      let h5 : Is z5 g5 l5 = with-term (z4) (pos (u 5)) (f 5) (g4) (l4) (u 5) (0) (h4) (just (u 5)) in
+      let m : ℕ = max (0 + f 6 * max (u 6) (u 8)) (0 + f 7 * u 7) in
+      let z6 : ℤ = z5 +ℤ pos m in
+      let g6 : ℕ = g5 + m in
+      let l6 : ℕ = l5 in
+      let h6 : Is z6 g6 l6 = with-pos (z5) (g5) (l5) m h5 in
+      let z7 : ℤ = z6 +ℤ pos (f 9) *ℤ (pos (u 9)) in
+      let g7 : ℕ = g6 + f 9 * u 9 in
+      let l7 : ℕ = l6 + f 9 * 0 in
+      let h7 : Is z7 g7 l7 = with-term (z6) (pos (u 9)) (f 9) (g6) (l6) (u 9) (0) (h6) (just (u 9)) in
+      let z8 : ℤ = z7 +ℤ pos (f 10) *ℤ (pos (u 10)) in
+      let g8 : ℕ = g7 + f 10 * u 10 in
+      let l8 : ℕ = l7 + f 10 * 0 in
+      let h8 : Is z8 g8 l8 = with-term (z7) (pos (u 10)) (f 10) (g7) (l7) (u 10) (0) (h7) (just (u 10)) in
+      let z9 : ℤ = z8 +ℤ pos (f 11) *ℤ (pos (u 11)) in
+      let g9 : ℕ = g8 + f 11 * u 11 in
+      let l9 : ℕ = l8 + f 11 * 0 in
+      let h9 : Is z9 g9 l9 = with-term (z8) (pos (u 11)) (f 11) (g8) (l8) (u 11) (0) (h8) (just (u 11)) in
+      is-less z9 g9 l9 h9 ∙ sym (λ i. pos (gain-is i) -ℤ pos (loss-is i))
