@@ -13,7 +13,7 @@ use Rattle.integers.specs.Sums.{sumℤ}
 use Rattle.wire.proofs.Cases.{eq-or-ne}
 use Rattle.standard.specs.declared.Settings.{Settings}
 use Rattle.standard.specs.declared.Capacities.{Capacities}
-use Rattle.standard.specs.Combination.{Combination, cases, taken, factoredEffect, numeratorOf, utilisationOf, denominatorOf}
+use Rattle.standard.specs.Combination.{Combination, caseCount, taken, factoredEffect, numeratorOf, utilisationOf, denominatorOf}
 use Rattle.standard.specs.Governing.{Reaches, Maximum, Minimum, Utilisation}
 use Rattle.envelope.specs.Range.{effectOf}
 use Rattle.envelope.proofs.Maximum.{extremes-governing}
@@ -47,11 +47,11 @@ sum-agrees (suc n) f g e =
     λ i. p i +ℤ q i
 
 module _ (s : Settings) (kind : ℕ → ℕ) where
-  effect-agrees : (c : Combination) (f g : ℕ → ℤ) → ((k : ℕ) → k < cases → f k ≡ g k) → factoredEffect s kind c f ≡ factoredEffect s kind c g
+  effect-agrees : (c : Combination) (f g : ℕ → ℤ) → ((k : ℕ) → k < caseCount → f k ≡ g k) → factoredEffect s kind c f ≡ factoredEffect s kind c g
   unfolding factoredEffect
-  effect-agrees c f g e = sum-agrees cases _ _ (λ k l. ap (λ (z : ℤ). pos (taken s kind c k) *ℤ z) (e k l))
+  effect-agrees c f g e = sum-agrees caseCount _ _ (λ k l. ap (λ (z : ℤ). pos (taken s kind c k) *ℤ z) (e k l))
 
-  module _ (f g : ℕ → ℤ) (e : (k : ℕ) → k < cases → f k ≡ g k) (c : Combination) (v : ℤ) where
+  module _ (f g : ℕ → ℤ) (e : (k : ℕ) → k < caseCount → f k ≡ g k) (c : Combination) (v : ℤ) where
     reaches-agrees : Reaches s kind f c v → Reaches s kind g c v
     reaches-agrees r = record { admissible = r .admissible; exact = sym (effect-agrees c f g e) ∙ r .exact }
 
@@ -67,7 +67,7 @@ module _ (s : Settings) (kind : ℕ → ℕ) where
       named = reaches-agrees (m .named);
     }
 
-  module _ (f g : ℕ → ℕ → ℤ) (e : (k j : ℕ) → k < cases → j < 3 → f k j ≡ g k j) (p : Capacities) where
+  module _ (f g : ℕ → ℕ → ℤ) (e : (k j : ℕ) → k < caseCount → j < 3 → f k j ≡ g k j) (p : Capacities) where
     used-agrees : (c : Combination) → utilisationOf s kind f p c ≡ utilisationOf s kind g p c
     used-agrees c =
         let at : (j : ℕ) → j < 3 → factoredEffect s kind c (λ k. f k j) ≡ factoredEffect s kind c (λ k. g k j) =
@@ -93,7 +93,7 @@ module _ (w : Sheet) (h : InRange w) where
       let f = settings-range _ _ _ (h .settings) in
       ⊎-elim inl (λ n. inr (omega (arith, f .some, f .method))) (eq-or-ne (w .settings .method) 1)
 
-  none-past : (k : ℕ) → cases ≤ k → kindAt w k ≡ 0
+  none-past : (k : ℕ) → caseCount ≤ k → kindAt w k ≡ 0
   none-past k l = List·getD-eq-default (w .kinds) 0 (omega (arith, h .kinds-long))
 
   extremes-field : (t j : ℕ) → t < 16 → j < 3 →
@@ -118,7 +118,7 @@ module _ (w : Sheet) (h : InRange w) where
       let two : 2 < 256 = omega arith in
       let r = f .reading ∙ ap (λ (x : List ℕ). readField x (length (m .out)) w) i ∙ front-read 6 (t ∷ j ∷ []) rest (length (m .out)) w g two (extremes-field t j a b) in
       let x = extremes-governing (w .settings) (kindAt w) method-known none-past (λ k. effectOf (stationEffects w t) k j) in
-      let same : (k : ℕ) → k < cases → effectOf (stationEffects w t) k j ≡ effectAt w k t j = λ k l. effect-seen w t h a k j l b in
+      let same : (k : ℕ) → k < caseCount → effectOf (stationEffects w t) k j ≡ effectAt w k t j = λ k l. effect-seen w t h a k j l b in
       record {
         extremes = extremesAt w t j;
         answered = ap (λ (y : Reading). y .answer) r;

@@ -14,14 +14,14 @@ use Rattle.integers.proofs.Tests.{and-left, and-right}
 use Rattle.standard.specs.declared.Settings.{Settings}
 use Rattle.standard.specs.declared.Capacities.{Capacities}
 use Rattle.standard.specs.Kinds.{classOf}
-use Rattle.standard.specs.Rows.{factorOf, lowOf, plainRows, floodRows}
-use Rattle.standard.specs.Combination.{Combination, cases, denominatorOf}
+use Rattle.standard.specs.Rows.{factorOf, lowOf, plainRows, floodRows, openRows}
+use Rattle.standard.specs.Combination.{Combination, caseCount, denominatorOf}
 use Rattle.standard.specs.Governing.{Maximum, Minimum, Utilisation}
 use Rattle.optimum.specs.Row.{lowerOf, leastOf, greatestOf, groupOf, rowMaximum}
 use Rattle.envelope.specs.declared.Extreme.{Extreme}
 use Rattle.envelope.specs.declared.Utilised.{Utilised}
 use Rattle.envelope.specs.Range.{kindOf, listed}
-use Rattle.envelope.specs.Envelope.{bestFrom, bestOf, governingOf, extremeIn, extremeOf, negatedOf, patternOf, peakOf, utilisedOf}
+use Rattle.envelope.specs.Envelope.{bestFrom, bestAmong, bestOver, bestOf, governingOf, extremeIn, extremeOf, negatedOf, patternOf, peakOf, utilisedOf}
 use Rattle.envelope.proofs.Maximum.{namedBy, extreme-maximum, extreme-minimum}
 use Rattle.envelope.proofs.Utilisation.{namedIn, utilisation-greatest}
 use Rattle.demands.specs.Worked.{Frame, Claim, maximum, minimum, maximumInRow, utilisation, onlyN, Holds, Entry, worked, All}
@@ -63,17 +63,17 @@ known-method s t = go (eqb (s .method) 1) (eqb→eq (s .method) 1) t
 
 -- a frame that the laws take: a known method, and no more cases than a sheet has
 fair : Frame → Bool
-fair f = known (f .settings) && leb (length (f .kinds)) cases
+fair f = known (f .settings) && leb (length (f .kinds)) caseCount
 
 module _ (f : Frame) (ok : T (fair f)) where
   method : (f .settings .method ≡ 1) ⊎ (f .settings .method ≡ 2)
   unfolding fair
-  method = known-method (f .settings) (and-left (known (f .settings)) (leb (length (f .kinds)) cases) ok)
+  method = known-method (f .settings) (and-left (known (f .settings)) (leb (length (f .kinds)) caseCount) ok)
 
-  empty : (k : ℕ) → cases ≤ k → kindOf (f .kinds) k ≡ 0
+  empty : (k : ℕ) → caseCount ≤ k → kindOf (f .kinds) k ≡ 0
   unfolding fair
   empty k l =
-      let m : length (f .kinds) ≤ cases = leb→le (length (f .kinds)) cases (and-right (known (f .settings)) (leb (length (f .kinds)) cases) ok) in
+      let m : length (f .kinds) ≤ caseCount = leb→le (length (f .kinds)) caseCount (and-right (known (f .settings)) (leb (length (f .kinds)) caseCount) ok) in
       List·getD-eq-default (f .kinds) 0 (omega arith)
 
 -- the two extremes and the utilisation of a frame, as they are computed
@@ -139,7 +139,7 @@ each-holds (x ∷ xs) t =
     )
 
 table-checks : T (checks worked)
-unfolding checks fair known meets same alike extremeIn governingOf bestOf bestFrom rowMaximum greatestOf leastOf lowerOf groupOf classOf factorOf lowOf plainRows floodRows patternOf peakOf utilisedOf denominatorOf sum most
+unfolding checks fair known meets same alike extremeIn governingOf bestOf bestOver bestAmong bestFrom rowMaximum greatestOf leastOf lowerOf groupOf classOf factorOf lowOf plainRows floodRows openRows patternOf peakOf utilisedOf denominatorOf sum most
 table-checks = tt
 
 pub worked-by-hand : All worked

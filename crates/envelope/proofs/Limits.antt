@@ -14,9 +14,9 @@ use Rattle.integers.proofs.Sums.{when-le, sum-most, most-le}
 use Rattle.standard.specs.declared.Settings.{Settings}
 use Rattle.standard.specs.declared.Class.{Class}
 use Rattle.standard.specs.declared.Class.the-variants.{Always, Subset, OneOf, Unknown}
-use Rattle.standard.specs.Kinds.{classOf, groups, permanentEarth}
-use Rattle.standard.specs.Rows.{rows, factorOf, lowOf}
-use Rattle.standard.specs.Combination.{cases}
+use Rattle.standard.specs.Kinds.{classOf, groupCount, permanentEarth}
+use Rattle.standard.specs.Rows.{rowCount, factorOf, lowOf}
+use Rattle.standard.specs.Combination.{caseCount}
 use Rattle.standard.proofs.Facts.{factor-le}
 use Rattle.optimum.specs.Row.{greatestBy, leastBy, greatestOf, leastOf, lowerOf, groupOf, worthOf, gainOf, lossOf, rowMaximum}
 use Rattle.envelope.specs.declared.Best.{Best}
@@ -53,29 +53,29 @@ module _ (F : ℕ) (s : Settings) (row : ℕ) (limit : (k : ℕ) → factorOf s 
 
 -- for factors up to F and effects up to m
 module _ (F m : ℕ) (s : Settings) (row : ℕ) (limit : (k : ℕ) → factorOf s row k ≤ F) (kind : ℕ → ℕ) (e : ℕ → ℤ) (small : (k : ℕ) → natAbs (e k) ≤ m) where
-  gain-most : gainOf s row kind e ≤ cases * (F * m) + groups * (F * m)
+  gain-most : gainOf s row kind e ≤ caseCount * (F * m) + groupCount * (F * m)
   gain-most =
       omega (
         arith,
-        sum-most cases (F * m) (λ k. greatestOf s row (kind k) * up (e k))
+        sum-most caseCount (F * m) (λ k. greatestOf s row (kind k) * up (e k))
             (λ k l. mul-le-mul (greatest-most F s row limit (kind k)) (omega (arith, small k, abs-parts (e k)))),
-        sum-most groups (F * m) (λ g. most cases (worthOf s row kind e g))
-            (λ g l. most-le cases (F * m) (worthOf s row kind e g)
+        sum-most groupCount (F * m) (λ g. most caseCount (worthOf s row kind e g))
+            (λ g l. most-le caseCount (F * m) (worthOf s row kind e g)
             (λ k i. le-trans (when-le (eqb (groupOf (kind k)) g) (factorOf s row (kind k) * up (e k)))
             (mul-le-mul (limit (kind k)) (omega (arith, small k, abs-parts (e k)))))),
       )
 
-  loss-most : lossOf s row kind e ≤ cases * (F * m)
+  loss-most : lossOf s row kind e ≤ caseCount * (F * m)
   loss-most =
-      sum-most cases (F * m) (λ k. leastOf s row (kind k) * down (e k))
+      sum-most caseCount (F * m) (λ k. leastOf s row (kind k) * down (e k))
       (λ k l. mul-le-mul (least-most F s row limit (kind k)) (omega (arith, small k, abs-parts (e k))))
 
-  pub maximum-most : natAbs (rowMaximum s row kind e) ≤ cases * (F * m) + groups * (F * m) + cases * (F * m)
+  pub maximum-most : natAbs (rowMaximum s row kind e) ≤ caseCount * (F * m) + groupCount * (F * m) + caseCount * (F * m)
   unfolding rowMaximum
   maximum-most = omega (arith, gain-most, loss-most, abs-add (pos (gainOf s row kind e)) (negℤ (pos (lossOf s row kind e))), abs-negated (pos (lossOf s row kind e)))
 
 module _ (s : Settings) (kind : ℕ → ℕ) (e : ℕ → ℤ) where
-  pub row-below : governingOf s kind e .row < rows
+  pub row-below : governingOf s kind e .row < rowCount
   unfolding governingOf
   row-below = best-some s (λ row. rowMaximum s row kind e) .0
 

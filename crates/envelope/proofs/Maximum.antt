@@ -14,12 +14,11 @@ use Rattle.integers.proofs.Linear.{left-commutes, distributes, minus-one, sum-a
 use Rattle.integers.proofs.Masks.{bit-of-mask}
 use Rattle.standard.specs.declared.Settings.{Settings}
 use Rattle.standard.specs.Rows.{factorOf}
-use Rattle.standard.specs.Combination.{Combination, Admissible, taken, factoredEffect, cases, named}
+use Rattle.standard.specs.Combination.{Combination, Admissible, taken, factoredEffect, caseCount, named}
 use Rattle.standard.specs.Governing.{Reaches, Maximum, Minimum}
 use Rattle.standard.specs.Kinds.{classOf}
 use Rattle.standard.proofs.Facts.{unknown-none}
-use Rattle.optimum.specs.Row as row
-use Rattle.optimum.specs.Row.{rowMaximum, actsIn, lowIn}
+use Rattle.optimum.specs.Row.{bestCombination, rowMaximum, actsIn, lowIn}
 use Rattle.optimum.proofs.RowBound.{row-bound}
 use Rattle.optimum.proofs.RowReached.{row-reached}
 use Rattle.envelope.specs.declared.Best.{Best}
@@ -34,14 +33,14 @@ module _ (s : Settings) (kind : ℕ → ℕ) (c : Combination) where
   effect-adds : (g h : ℕ → ℤ) → factoredEffect s kind c (λ k. g k +ℤ h k) ≡ factoredEffect s kind c g +ℤ factoredEffect s kind c h
   unfolding factoredEffect
   effect-adds g h =
-      ap (sumℤ cases) (λ i k. distributes (pos (taken s kind c k)) (g k) (h k) i)
-      ∙ sum-adds cases (λ k. pos (taken s kind c k) *ℤ g k) (λ k. pos (taken s kind c k) *ℤ h k)
+      ap (sumℤ caseCount) (λ i k. distributes (pos (taken s kind c k)) (g k) (h k) i)
+      ∙ sum-adds caseCount (λ k. pos (taken s kind c k) *ℤ g k) (λ k. pos (taken s kind c k) *ℤ h k)
 
   effect-scales : (a : ℤ) (g : ℕ → ℤ) → factoredEffect s kind c (λ k. a *ℤ g k) ≡ a *ℤ factoredEffect s kind c g
   unfolding factoredEffect
   effect-scales a g =
-      ap (sumℤ cases) (λ i k. left-commutes (pos (taken s kind c k)) a (g k) i)
-      ∙ sum-scales cases a (λ k. pos (taken s kind c k) *ℤ g k)
+      ap (sumℤ caseCount) (λ i k. left-commutes (pos (taken s kind c k)) a (g k) i)
+      ∙ sum-scales caseCount a (λ k. pos (taken s kind c k) *ℤ g k)
 
   pub effect-weighed : (w : Weights) (effect : ℕ → ℕ → ℤ) → factoredEffect s kind c (weighed w effect)
       ≡ w .n *ℤ factoredEffect s kind c (λ k. effect k 0) +ℤ w .y *ℤ factoredEffect s kind c (λ k. effect k 1) +ℤ w .z *ℤ factoredEffect s kind c (λ k. effect k 2)
@@ -56,26 +55,26 @@ module _ (s : Settings) (kind : ℕ → ℕ) (c : Combination) where
       ∙ effect-scales (negsuc 0) e ∙ minus-one (factoredEffect s kind c e)
 
 -- the combination that the masks name is the best one of its row
-module _ (s : Settings) (r : ℕ) (kind : ℕ → ℕ) (e : ℕ → ℤ) (empty : (k : ℕ) → cases ≤ k → kind k ≡ 0) where
-  no-factor : (k : ℕ) → cases ≤ k → factorOf s r (kind k) ≡ 0
+module _ (s : Settings) (r : ℕ) (kind : ℕ → ℕ) (e : ℕ → ℤ) (empty : (k : ℕ) → caseCount ≤ k → kind k ≡ 0) where
+  no-factor : (k : ℕ) → caseCount ≤ k → factorOf s r (kind k) ≡ 0
   unfolding classOf
   no-factor k l = ap (factorOf s r) (empty k l) ∙ unknown-none s r 0 refl
 
-  none-acts : (k : ℕ) → cases ≤ k → actsIn s r kind e k ≡ false
+  none-acts : (k : ℕ) → caseCount ≤ k → actsIn s r kind e k ≡ false
   unfolding actsIn
   none-acts k l = rw (no-factor k l)
 
-  none-low : (k : ℕ) → cases ≤ k → lowIn s r kind e k ≡ false
+  none-low : (k : ℕ) → caseCount ≤ k → lowIn s r kind e k ≡ false
   unfolding lowIn
   none-low k l = rw (no-factor k l)
 
-  named-best : row.bestIn s r kind e ≡ named r (maskOf cases (actsIn s r kind e)) (maskOf cases (lowIn s r kind e))
-  named-best = λ i. record { row = r; acting = λ k. sym (bit-of-mask cases (actsIn s r kind e) none-acts k) i; low = λ k. sym (bit-of-mask cases (lowIn s r kind e) none-low k) i }
+  named-best : bestCombination s r kind e ≡ named r (maskOf caseCount (actsIn s r kind e)) (maskOf caseCount (lowIn s r kind e))
+  named-best = λ i. record { row = r; acting = λ k. sym (bit-of-mask caseCount (actsIn s r kind e) none-acts k) i; low = λ k. sym (bit-of-mask caseCount (lowIn s r kind e) none-low k) i }
 
 abbrev pub namedBy : Extreme → Combination
 namedBy x = named (x .row) (x .acting) (x .low)
 
-module _ (s : Settings) (kind : ℕ → ℕ) (m : (s .method ≡ 1) ⊎ (s .method ≡ 2)) (empty : (k : ℕ) → cases ≤ k → kind k ≡ 0) where
+module _ (s : Settings) (kind : ℕ → ℕ) (m : (s .method ≡ 1) ⊎ (s .method ≡ 2)) (empty : (k : ℕ) → caseCount ≤ k → kind k ≡ 0) where
   pub extreme-maximum : (e : ℕ → ℤ) → Maximum s kind e (namedBy (extremeOf s kind e)) (extremeOf s kind e .value)
   unfolding governingOf extremeIn
   extreme-maximum e =

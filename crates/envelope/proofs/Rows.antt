@@ -5,18 +5,25 @@ use native.Mathlib.Omega.{arith}
 use native.Mathlib.Decide.{ℕ-discrete}
 use mathlib.Core.Path.{_≡_, refl, sym, ap, _∙_, subst}
 use mathlib.Core.Bool.{Bool, true, false, not, cond, _&&_, _||_}
+use mathlib.Core.List.{List, [], _∷_}
 use mathlib.Core.Logic.{_⊎_, inl, inr}
-use lib.Dec.{T, leb, ltb, leb→le, le→leb, ltb→lt, lt→ltb}
+use lib.Dec.{T, leb, leb→le, le→leb}
 use lib.IntN.{ℤ}
 use lib.Signed.{_≤ℤ_, ≤ℤ-refl, ltZ, ltZ-no}
 use Rattle.integers.proofs.Tests.{and-left, and-right, and-both, or-left, or-right, or-cases}
 use Rattle.integers.proofs.Signs.{≤-trans, less-le}
 use Rattle.standard.specs.declared.Settings.{Settings}
-use Rattle.standard.specs.declared.Span.{Span}
-use Rattle.standard.specs.Rows.{span, rows, plainRows, floodRows, within, openRow}
-use Rattle.standard.proofs.Facts.{plain-some, plain-from, plain-below, flood-below}
+use Rattle.standard.specs.Rows.{Span, rowCount, openRows, within, inSpans, openRow}
+use Rattle.standard.proofs.Facts.{begins, some-open}
 use Rattle.envelope.specs.declared.Best.{Best}
-use Rattle.envelope.specs.Envelope.{betterBy, bestFrom, bestIn, laterOf, bestOf}
+use Rattle.envelope.specs.Envelope.{bestAt, betterBy, bestFrom, bestIn, bestAmong, laterOf, bestOver, bestOf}
+
+-- the rows of a span
+within-in : (p : Span) (r : ℕ) → p .first ≤ r → r ≤ p .last → T (within p r)
+within-in p r a b = and-both (leb (p .first) r) (leb r (p .last)) (le→leb (p .first) r a) (le→leb r (p .last) b)
+
+within-out : (p : Span) (r : ℕ) → T (within p r) → (p .first ≤ r) × (r ≤ p .last)
+within-out p r t = (leb→le (p .first) r (and-left (leb (p .first) r) (leb r (p .last)) t), leb→le r (p .last) (and-right (leb (p .first) r) (leb r (p .last)) t))
 
 -- b is the value of a row with P, and no row with Q is above it
 record Governs (v : ℕ → ℤ) (P : ℕ → Type 0) (Q : ℕ → Type 0) (b : Best) : Type 0 where
@@ -61,11 +68,62 @@ module _ (v : ℕ → ℤ) (P : ℕ → Type 0) where
       weaken : {x : Best} → Governs v P (λ i. (Q i ⊎ ((from ≤ i) × (i < from + n))) ⊎ (i ≡ from + n)) x → Governs v P (λ i. Q i ⊎ ((from ≤ i) × (i < from + suc n))) x
       weaken g = record { value = g .value; row = g .row; none-above = λ r q. g .none-above r (sort r q) }
 
-within-in : (p : Span) (r : ℕ) → p .from ≤ r → r < p .to → T (within p r)
-within-in p r a b = and-both (leb (p .from) r) (ltb r (p .to)) (le→leb (p .from) r a) (lt→ltb r (p .to) b)
+  -- of fewer rows, the same holds
+  fewer : {Q R : ℕ → Type 0} {b : Best} → ((r : ℕ) → R r → Q r) → Governs v P Q b → Governs v P R b
+  fewer f g = record { value = g .value; row = g .row; none-above = λ r q. g .none-above r (f r q) }
 
-within-out : (p : Span) (r : ℕ) → T (within p r) → (p .from ≤ r) × (r < p .to)
-within-out p r t = (leb→le (p .from) r (and-left (leb (p .from) r) (ltb r (p .to)) t), ltb→lt r (p .to) (and-right (leb (p .from) r) (ltb r (p .to)) t))
+  best-among : (Q : ℕ → Type 0) (b : Best) (ps : List Span) → ((r : ℕ) → T (inSpans ps r) → P r) → Governs v P Q b →
+      Governs v P (λ i. Q i ⊎ T (inSpans ps i)) (bestAmong v b ps)
+  unfolding bestAmong
+  best-among Q b [] p h = fewer none h
+    where
+      none : (r : ℕ) → Q r ⊎ T (inSpans [] r) → Q r
+      none r (inl q) = q
+      none r (inr t) = absurd t
+  best-among Q b (s ∷ ps) p h =
+      fewer sort
+      (best-among (λ i. Q i ⊎ ((s .first ≤ i) × (i < s .first + (s .last + 1 - s .first)))) (bestIn v b s) ps (λ r t. p r (or-right (within s r) (inSpans ps r) t))
+      (best-from Q b (s .first) (s .last + 1 - s .first) (λ r a c. p r (or-left (within s r) (inSpans ps r) (within-in s r a (omega arith)))) h))
+    where
+      sort : (r : ℕ) → Q r ⊎ T (inSpans (s ∷ ps) r) → (Q r ⊎ ((s .first ≤ r) × (r < s .first + (s .last + 1 - s .first)))) ⊎ T (inSpans ps r)
+      sort r (inl q) = inl (inl q)
+      sort r (inr t) = go (or-cases (within s r) (inSpans ps r) t)
+        where
+          go : T (within s r) ⊎ T (inSpans ps r) → (Q r ⊎ ((s .first ≤ r) × (r < s .first + (s .last + 1 - s .first)))) ⊎ T (inSpans ps r)
+          go (inl w) = let a : (s .first ≤ r) × (r ≤ s .last) = within-out s r w in inl (inr (a .0, omega (arith, a .0, a .1)))
+          go (inr w) = inr w
+
+-- the best of the rows of some spans, the first of which has a row
+best-over : (v : ℕ → ℤ) (p : Span) (ps : List Span) → p .first ≤ p .last →
+    Governs v (λ r. T (inSpans (p ∷ ps) r)) (λ r. T (inSpans (p ∷ ps) r)) (bestOver v (p ∷ ps))
+unfolding bestOver
+best-over v p ps h =
+    fewer v _ all
+    (best-among v (λ r. T (inSpans (p ∷ ps) r)) (λ r. r ≡ p .first) (bestAt (p .first) (v (p .first))) (laterOf p ∷ ps) each
+    (record {
+      value = refl;
+      row = or-left (within p (p .first)) (inSpans ps (p .first)) (within-in p (p .first) (omega arith) h);
+      none-above = λ r e. subst (λ (i : ℕ). v i ≤ℤ v (p .first)) (sym e) (≤ℤ-refl (v (p .first)));
+    }))
+  where
+    each : (r : ℕ) → T (inSpans (laterOf p ∷ ps) r) → T (inSpans (p ∷ ps) r)
+    each r t = go (or-cases (within (laterOf p) r) (inSpans ps r) t)
+      where
+        go : T (within (laterOf p) r) ⊎ T (inSpans ps r) → T (inSpans (p ∷ ps) r)
+        go (inl w) =
+            let a : (p .first + 1 ≤ r) × (r ≤ p .last) = within-out (laterOf p) r w in
+            or-left (within p r) (inSpans ps r) (within-in p r (omega (arith, a .0)) (a .1))
+        go (inr w) = or-right (within p r) (inSpans ps r) w
+
+    all : (r : ℕ) → T (inSpans (p ∷ ps) r) → (r ≡ p .first) ⊎ T (inSpans (laterOf p ∷ ps) r)
+    all r t = go (ℕ-discrete r (p .first)) (or-cases (within p r) (inSpans ps r) t)
+      where
+        go : Dec (r ≡ p .first) → T (within p r) ⊎ T (inSpans ps r) → (r ≡ p .first) ⊎ T (inSpans (laterOf p ∷ ps) r)
+        go (yes e) w = inl e
+        go (no e) (inl w) =
+            let a : (p .first ≤ r) × (r ≤ p .last) = within-out p r w in
+            inr (or-left (within (laterOf p) r) (inSpans ps r) (within-in (laterOf p) r (omega (arith, a .0)) (a .1)))
+        go (no e) (inr w) = inr (or-right (within (laterOf p) r) (inSpans ps r) w)
 
 pub record BestOpen (s : Settings) (v : ℕ → ℤ) (b : Best) : Type 0 where
   pub value : b .value ≡ v (b .row)
@@ -74,62 +132,25 @@ pub record BestOpen (s : Settings) (v : ℕ → ℤ) (b : Best) : Type 0 where
 
 pub best-open : (s : Settings) (v : ℕ → ℤ) → (s .method ≡ 1) ⊎ (s .method ≡ 2) → BestOpen s v (bestOf s v)
 unfolding bestOf openRow
-best-open s v m =
-    let g : Governs v (λ r. T (openRow s r)) covered (bestOf s v) =
-    best-from v (λ r. T (openRow s r)) plain-covered plain-best (floodRows s .from) (floodRows s .to - floodRows s .from) flood-open
-    (best-from v (λ r. T (openRow s r)) (λ r. r ≡ plainRows s .from) (record { row = plainRows s .from; value = v (plainRows s .from) })
-    (plainRows s .from + 1) (plainRows s .to - (plainRows s .from + 1)) plain-open
-    (record {
-      value = refl;
-      row = open-plain (plainRows s .from) (omega arith) (plain-some s m);
-      none-above = λ r e. subst (λ (i : ℕ). v i ≤ℤ v (plainRows s .from)) (sym e) (≤ℤ-refl (v (plainRows s .from)));
-    })) in
-    record { value = g .value; open-row = g .row; none-above = λ r o. g .none-above r (cover r (or-cases (within (plainRows s) r) (within (floodRows s) r) o)) }
+best-open s v m = go (openRows s) refl
   where
-    plain-best : Best
-    plain-best = bestIn v (record { row = plainRows s .from; value = v (plainRows s .from) }) (laterOf (plainRows s))
-
-    plain-covered : ℕ → Type 0
-    plain-covered i = (i ≡ plainRows s .from) ⊎ ((plainRows s .from + 1 ≤ i) × (i < plainRows s .from + 1 + (plainRows s .to - (plainRows s .from + 1))))
-
-    covered : ℕ → Type 0
-    covered i = plain-covered i ⊎ ((floodRows s .from ≤ i) × (i < floodRows s .from + (floodRows s .to - floodRows s .from)))
-
-    open-plain : (r : ℕ) → plainRows s .from ≤ r → r < plainRows s .to → T (openRow s r)
-    open-plain r a b = or-left (within (plainRows s) r) (within (floodRows s) r) (within-in (plainRows s) r a b)
-
-    plain-open : (r : ℕ) → plainRows s .from + 1 ≤ r → r < plainRows s .from + 1 + (plainRows s .to - (plainRows s .from + 1)) → T (openRow s r)
-    plain-open r a b = open-plain r (omega arith) (omega arith)
-
-    flood-open : (r : ℕ) → floodRows s .from ≤ r → r < floodRows s .from + (floodRows s .to - floodRows s .from) → T (openRow s r)
-    flood-open r a b = or-right (within (plainRows s) r) (within (floodRows s) r) (within-in (floodRows s) r a (omega arith))
-
-    cover : (r : ℕ) → T (within (plainRows s) r) ⊎ T (within (floodRows s) r) → covered r
-    cover r (inl t) = first (ℕ-discrete r (plainRows s .from)) (within-out (plainRows s) r t)
-      where
-        first : Dec (r ≡ plainRows s .from) → (plainRows s .from ≤ r) × (r < plainRows s .to) → covered r
-        first (yes e) w = inl (inl e)
-        first (no e) w = inl (inr (omega (arith, w .0, w .1), omega (arith, w .0, w .1)))
-    cover r (inr t) = let w : (floodRows s .from ≤ r) × (r < floodRows s .to) = within-out (floodRows s) r t in inr (w .0, omega (arith, w .0, w .1))
+    go : (ps : List Span) → openRows s ≡ ps → BestOpen s v (bestOf s v)
+    go [] e = absurd (some-open s m e)
+    go (p ∷ ps) e =
+        let g = subst (λ (q : List Span). Governs v (λ r. T (inSpans q r)) (λ r. T (inSpans q r)) (bestOver v q)) (sym e) (best-over v p ps (begins s p ps e .some)) in
+        record { value = g .value; open-row = g .row; none-above = g .none-above }
 
 -- whatever the method, the row is a number of the table, and the value its own
-pub best-some : (s : Settings) (v : ℕ → ℤ) → (bestOf s v .row < rows) × (bestOf s v .value ≡ v (bestOf s v .row))
-unfolding bestOf
-best-some s v = (g .row, g .value)
+pub best-some : (s : Settings) (v : ℕ → ℤ) → (bestOf s v .row < rowCount) × (bestOf s v .value ≡ v (bestOf s v .row))
+unfolding bestOf bestOver
+best-some s v = go (openRows s) refl
   where
-    none : ℕ → Type 0
-    none r = ⊥
+    Own : List Span → Type 0
+    Own ps = (bestOver v ps .row < rowCount) × (bestOver v ps .value ≡ v (bestOver v ps .row))
 
-    later : ℕ → Type 0
-    later r = none r ⊎ ((plainRows s .from + 1 ≤ r) × (r < plainRows s .from + 1 + (plainRows s .to - (plainRows s .from + 1))))
-
-    flood : ℕ → Type 0
-    flood r = later r ⊎ ((floodRows s .from ≤ r) × (r < floodRows s .from + (floodRows s .to - floodRows s .from)))
-
-    g : Governs v (λ r. r < rows) flood (bestOf s v)
-    g = best-from v (λ r. r < rows) later
-        (bestIn v (record { row = plainRows s .from; value = v (plainRows s .from) }) (laterOf (plainRows s)))
-        (floodRows s .from) (floodRows s .to - floodRows s .from) (λ r a b. omega (arith, flood-below s))
-        (best-from v (λ r. r < rows) none (record { row = plainRows s .from; value = v (plainRows s .from) })
-        (plainRows s .from + 1) (plainRows s .to - (plainRows s .from + 1)) (λ r a b. omega (arith, plain-below s))
-        (record { value = refl; row = plain-from s; none-above = λ r q. absurd q }))
+    go : (ps : List Span) → openRows s ≡ ps → Own (openRows s)
+    go [] e = subst Own (sym e) (omega arith, refl)
+    go (p ∷ ps) e =
+        let b = begins s p ps e in
+        let g = best-over v p ps (b .some) in
+        subst Own (sym e) (b .below (bestOver v (p ∷ ps) .row) (g .row), g .value)

@@ -15,7 +15,7 @@ use Rattle.integers.proofs.Signs.{le-in, le-out, eq-in, ≤-trans, less-le, add
 use Rattle.integers.proofs.Linear.{product-up, product-down}
 use Rattle.standard.specs.declared.Settings.{Settings}
 use Rattle.standard.specs.declared.Capacities.{Capacities}
-use Rattle.standard.specs.Combination.{Combination, Admissible, factoredEffect, cases, bit, named, numeratorOf, denominatorOf, utilisationOf}
+use Rattle.standard.specs.Combination.{Combination, Admissible, factoredEffect, caseCount, bit, named, numeratorOf, denominatorOf, utilisationOf}
 use Rattle.standard.specs.Governing.{Maximum, Utilisation}
 use Rattle.envelope.specs.declared.Best.{Best}
 use Rattle.envelope.specs.declared.Extreme.{Extreme}
@@ -158,7 +158,7 @@ above v x p = omega (arith, le-out (pos x) v p, abs-parts v)
 unfoldable pub namedIn : Utilised → Combination
 namedIn x = named (x .row) (x .acting) (x .low)
 
-module _ (s : Settings) (kind : ℕ → ℕ) (m : (s .method ≡ 1) ⊎ (s .method ≡ 2)) (empty : (k : ℕ) → cases ≤ k → kind k ≡ 0) (effect : ℕ → ℕ → ℤ) (p : Capacities) where
+module _ (s : Settings) (kind : ℕ → ℕ) (m : (s .method ≡ 1) ⊎ (s .method ≡ 2)) (empty : (k : ℕ) → caseCount ≤ k → kind k ≡ 0) (effect : ℕ → ℕ → ℤ) (p : Capacities) where
   abbrev peak : Peak
   peak = peakOf (patternBest s kind effect p) 7
 

@@ -2,15 +2,15 @@
 -- effects and its capacities alone.
 use Prim.Native.Nat.{ℕ, zero, suc, _+_, _*_, _-_}
 use mathlib.Core.Bool.{Bool, cond}
-use lib.Dec.{eqb, leb}
+use mathlib.Core.List.{List, [], _∷_}
+use lib.Dec.{leb}
 use lib.IntN.{ℤ, pos, negsuc, negℤ, _+ℤ_, _*ℤ_, natAbs}
 use lib.Signed.{ltZ}
 use Rattle.integers.specs.Sums.{maskOf}
 use Rattle.standard.specs.declared.Settings.{Settings}
-use Rattle.standard.specs.declared.Span.{Span}
 use Rattle.standard.specs.declared.Capacities.{Capacities}
-use Rattle.standard.specs.Rows.{span, plainRows, floodRows}
-use Rattle.standard.specs.Combination.{cases, bit, denominatorOf}
+use Rattle.standard.specs.Rows.{Span, rowsTo, openRows}
+use Rattle.standard.specs.Combination.{caseCount, bit, denominatorOf}
 use Rattle.optimum.specs.Row.{rowMaximum, actsIn, lowIn}
 use Rattle.envelope.specs.declared.Best.{Best}
 use Rattle.envelope.specs.declared.Extreme.{Extreme}
@@ -33,19 +33,25 @@ bestFrom v b from (suc n) = betterBy (bestFrom v b from n) (from + n) (v (from +
 
 -- over the rows of a span
 abbrev pub bestIn : (ℕ → ℤ) → Best → Span → Best
-bestIn v b p = bestFrom v b (p .from) (p .to - p .from)
+bestIn v b p = bestFrom v b (p .first) (p .last + 1 - p .first)
+
+-- over the rows of some spans
+unfoldable pub bestAmong : (ℕ → ℤ) → Best → List Span → Best
+bestAmong v b [] = b
+bestAmong v b (p ∷ ps) = bestAmong v (bestIn v b p) ps
 
 -- the rows of a span after the first
 abbrev pub laterOf : Span → Span
-laterOf p = span (p .from + 1) (p .to)
+laterOf p = rowsTo (p .first + 1) (p .last)
 
--- the flood rows of a method, by zone
-abbrev pub byZone : Settings → Span → Span → Span
-byZone s one two = cond (eqb (s .zone) 1) one (cond (eqb (s .zone) 2) two (span 0 0))
+-- the best of the rows of some spans; where there is none, row 0, in which no kind has a factor
+unfoldable pub bestOver : (ℕ → ℤ) → List Span → Best
+bestOver v [] = bestAt 0 (v 0)
+bestOver v (p ∷ ps) = bestAmong v (bestAt (p .first) (v (p .first))) (laterOf p ∷ ps)
 
--- over the plain rows and then the flood rows
+-- the best open row
 unfoldable pub bestOf : Settings → (ℕ → ℤ) → Best
-bestOf s v = bestIn v (bestIn v (bestAt (plainRows s .from) (v (plainRows s .from))) (laterOf (plainRows s))) (floodRows s)
+bestOf s v = bestOver v (openRows s)
 
 unfoldable pub governingOf : Settings → (ℕ → ℕ) → (ℕ → ℤ) → Best
 governingOf s kind e = bestOf s (λ row. rowMaximum s row kind e)
@@ -53,7 +59,7 @@ governingOf s kind e = bestOf s (λ row. rowMaximum s row kind e)
 -- the greatest factored effect with the combination that reaches it: the sets are those of the governing row
 unfoldable pub extremeIn : Settings → (ℕ → ℕ) → (ℕ → ℤ) → Best → Extreme
 extremeIn s kind e b =
-    record { value = b .value; row = b .row; acting = maskOf cases (actsIn s (b .row) kind e); low = maskOf cases (lowIn s (b .row) kind e) }
+    record { value = b .value; row = b .row; acting = maskOf caseCount (actsIn s (b .row) kind e); low = maskOf caseCount (lowIn s (b .row) kind e) }
 
 abbrev pub extremeOf : Settings → (ℕ → ℕ) → (ℕ → ℤ) → Extreme
 extremeOf s kind e = extremeIn s kind e (governingOf s kind e)

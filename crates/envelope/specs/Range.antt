@@ -1,10 +1,12 @@
 -- The range of a station's inputs (01, 'A sheet and its seven fields').
-use Prim.Native.Nat.{ℕ, _+_, _*_, _≤_}
+use Prim.Native.Nat.{ℕ, _+_, _*_, _<_, _≤_}
 use mathlib.Core.List.{List}
 use mathlib.Core.Path.{_≡_}
 use lib.ListN.{length, getD}
 use lib.IntN.{ℤ, pos, natAbs}
 use Rattle.standard.specs.declared.Capacities.{Capacities}
+use Rattle.standard.specs.Kinds.{kindCount}
+use Rattle.standard.specs.Combination.{caseCount}
 use Rattle.envelope.specs.declared.Weights.{Weights}
 
 -- the kind of a case, 0 for an empty place, and its effect on a component; both are 0 past the last case
@@ -18,29 +20,36 @@ effectOf effects k j = getD effects (k * 3 + j) (pos 0)
 abbrev pub listed : List ℤ → ℕ → ℤ
 listed e k = getD e k (pos 0)
 
--- the kinds of the 32 cases, and three effects of each
+-- effects run from -10,000 to 10,000, capacities from 1 to 10,000
+abbrev pub effectLimit : ℕ
+effectLimit = 10000
+
+abbrev pub capacityLimit : ℕ
+capacityLimit = 10000
+
+-- the kinds of the cases, and three effects of each
 pub record StationInRange (kinds : List ℕ) (effects : List ℤ) : Type 0 where
-  pub kinds-long : length kinds ≡ 32
-  pub effects-long : length effects ≡ 96
-  pub kinds-range : (k : ℕ) → getD kinds k 0 ≤ 11
-  pub effects-range : (i : ℕ) → natAbs (getD effects i (pos 0)) ≤ 10000
+  pub kinds-long : length kinds ≡ caseCount
+  pub effects-long : length effects ≡ caseCount * 3
+  pub kinds-range : (k : ℕ) → getD kinds k 0 < kindCount
+  pub effects-range : (i : ℕ) → natAbs (getD effects i (pos 0)) ≤ effectLimit
 
 -- either by itself
 pub record KindsInRange (kinds : List ℕ) : Type 0 where
-  pub long : length kinds ≡ 32
-  pub range : (k : ℕ) → getD kinds k 0 ≤ 11
+  pub long : length kinds ≡ caseCount
+  pub range : (k : ℕ) → getD kinds k 0 < kindCount
 
 pub record EffectsInRange (effects : List ℤ) : Type 0 where
-  pub long : length effects ≡ 96
-  pub range : (i : ℕ) → natAbs (getD effects i (pos 0)) ≤ 10000
+  pub long : length effects ≡ caseCount * 3
+  pub range : (i : ℕ) → natAbs (getD effects i (pos 0)) ≤ effectLimit
 
 pub record CapacitiesInRange (p : Capacities) : Type 0 where
   pub n-least : 1 ≤ p .n
-  pub n-most : p .n ≤ 10000
+  pub n-most : p .n ≤ capacityLimit
   pub y-least : 1 ≤ p .y
-  pub y-most : p .y ≤ 10000
+  pub y-most : p .y ≤ capacityLimit
   pub z-least : 1 ≤ p .z
-  pub z-most : p .z ≤ 10000
+  pub z-most : p .z ≤ capacityLimit
 
 -- products of two capacities, with a sign
 abbrev pub weightMost : ℕ

@@ -8,8 +8,8 @@ use mathlib.Core.Path.{_≡_, refl, sym, ap, _∙_}
 use lib.IntN.{ℤ, pos, negℤ, _+ℤ_, _*ℤ_, natAbs}
 use Rattle.standard.specs.declared.Settings.{Settings}
 use Rattle.standard.specs.declared.Capacities.{Capacities}
-use Rattle.standard.specs.Kinds.{kinds}
-use Rattle.standard.specs.Combination.{cases}
+use Rattle.standard.specs.Kinds.{kindCount}
+use Rattle.standard.specs.Combination.{caseCount}
 use Rattle.envelope.specs.Range.{effectMost}
 use Rattle.envelope.specs.Places.{Places}
 use Rattle.sums.specs.declared.Directions.{Directions}
@@ -24,7 +24,7 @@ use Rattle.envelope.specs.Directions.{signsBy}
 use Rattle.governing.specs.Ways.{towardOf, Ready, eightOf}
 use Rattle.envelope.proofs.Patterns.{pattern-directed, pattern-opposed}
 
-module _ (s : Settings) (sums : List ℕ) (kind : ℕ → ℕ) (e : ℕ → ℤ) (below : (k : ℕ) → kind k < kinds) (h : Summed sums kind e) where
+module _ (s : Settings) (sums : List ℕ) (kind : ℕ → ℕ) (e : ℕ → ℤ) (below : (k : ℕ) → kind k < kindCount) (h : Summed sums kind e) where
   pub forward-is : (f : ℕ → ℤ) → ((k : ℕ) → e k ≡ f k) → towardOf s sums 0 1 ≡ governingOf s kind f
   unfolding governingOf
   forward-is f is = ap (bestOf s) (λ i row. value-is sums kind e below h s row i) ∙ ap (governingOf s kind) (λ i k. is k i)
@@ -55,12 +55,12 @@ unfolding peakOf
 peak-same b c zero h = λ i. record { pattern = 0; best = h 0 (omega arith) i }
 peak-same b c (suc n) h = λ i. higherBy (peak-same b c n (λ j l. h j (omega arith)) i) (suc n) (h (suc n) (omega arith) i)
 
-module _ (s : Settings) (kind : ℕ → ℕ) (effect : ℕ → ℕ → ℤ) (p : Capacities) (below : (k : ℕ) → kind k < kinds) (s0 s1 s2 s3 places : List ℕ)
-    (q : Places places kind) (h : FourOf s0 s1 s2 s3 places (directed (patternOf p 0) effect) kinds) where
+module _ (s : Settings) (kind : ℕ → ℕ) (effect : ℕ → ℕ → ℤ) (p : Capacities) (below : (k : ℕ) → kind k < kindCount) (s0 s1 s2 s3 places : List ℕ)
+    (q : Places places kind) (h : FourOf s0 s1 s2 s3 places (directed (patternOf p 0) effect) kindCount) where
   abbrev way : Bool → Bool → ℕ → ℤ
   way a b k = signsBy a b (patternOf p 0 .n *ℤ effect k 0) (patternOf p 0 .y *ℤ effect k 1) (patternOf p 0 .z *ℤ effect k 2)
 
-  held : (way : Directions → ℤ) (sums : List ℕ) → SumsOf sums places (λ k. way (directed (patternOf p 0) effect k)) kinds → Summed sums kind (λ k. way (directed (patternOf p 0) effect k))
+  held : (way : Directions → ℤ) (sums : List ℕ) → SumsOf sums places (λ k. way (directed (patternOf p 0) effect k)) kindCount → Summed sums kind (λ k. way (directed (patternOf p 0) effect k))
   held way sums = summed sums places kind (λ k. way (directed (patternOf p 0) effect k)) q
 
   each : (i : ℕ) → i ≤ 7 → eightOf s s0 s1 s2 s3 i ≡ patternBest s kind effect p i

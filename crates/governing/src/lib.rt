@@ -1,8 +1,8 @@
 ghost use mathlib.Core.Path.{_≡_};
 ghost use Prim.Native.Nat.{ℕ, _<_};
-ghost use Rattle.standard.specs.Rows.{rows, span};
+ghost use Rattle.standard.specs.Rows.{rowCount, rowsTo, byZone};
 ghost use Rattle.standard.specs.Columns.{rowTable};
-ghost use Rattle.envelope.specs.Envelope.{bestAt, betterBy, bestFrom, bestIn, byZone, bestOf, higherBy, peakOf};
+ghost use Rattle.envelope.specs.Envelope.{bestAt, betterBy, bestFrom, bestAmong, bestOf, higherBy, peakOf};
 ghost use Rattle.sums.specs.Sums.{SumsInRange};
 ghost use Rattle.terms.specs.Value.{termsOf, TermsInRange, valueOf};
 ghost use Rattle.governing.specs.Ways.{towardOf, Ready, eightOf};
@@ -24,7 +24,7 @@ fn better(b: Best, row: usize, value: i64) -> Best
 }
 
 fn first_row(table: &RowTable, s: Settings, row: usize, t: Terms) -> Best
-    requires { ⌜ (row < rows) × (now table ≡ rowTable) × TermsInRange t ⌝ }
+    requires { ⌜ (row < rowCount) × (now table ≡ rowTable) × TermsInRange t ⌝ }
     ensures { λ r. ⌜ r ≡ bestAt row (valueOf s row t) ⌝ }
 {
     Best {
@@ -34,7 +34,7 @@ fn first_row(table: &RowTable, s: Settings, row: usize, t: Terms) -> Best
 }
 
 fn with_row(b: Best, table: &RowTable, s: Settings, row: usize, t: Terms) -> Best
-    requires { ⌜ (row < rows) × (now table ≡ rowTable) × TermsInRange t ⌝ }
+    requires { ⌜ (row < rowCount) × (now table ≡ rowTable) × TermsInRange t ⌝ }
     ensures { λ r. ⌜ r ≡ betterBy b row (valueOf s row t) ⌝ }
 {
     better(b, row, terms::value_of(table, s, row, t))
@@ -58,7 +58,7 @@ fn strength(table: &RowTable, s: Settings, t: Terms) -> Best
 // The same with the flood rows of method 1.
 fn strength_flooded(b: Best, table: &RowTable, s: Settings, t: Terms) -> Best
     requires { ⌜ (now table ≡ rowTable) × TermsInRange t ⌝ }
-    ensures { λ r. ⌜ r ≡ bestIn (λ row. valueOf s row t) b (byZone s (span 9 11) (span 11 13)) ⌝ }
+    ensures { λ r. ⌜ r ≡ bestAmong (λ row. valueOf s row t) b (byZone s (rowsTo 9 10) (rowsTo 11 12)) ⌝ }
 {
     if s.zone == 1 {
         let b9 = with_row(b, table, s, 9, t);
@@ -91,7 +91,7 @@ fn allowable(table: &RowTable, s: Settings, t: Terms) -> Best
 // The same with the flood rows of method 2.
 fn allowable_flooded(b: Best, table: &RowTable, s: Settings, t: Terms) -> Best
     requires { ⌜ (now table ≡ rowTable) × TermsInRange t ⌝ }
-    ensures { λ r. ⌜ r ≡ bestIn (λ row. valueOf s row t) b (byZone s (span 31 36) (span 36 41)) ⌝ }
+    ensures { λ r. ⌜ r ≡ bestAmong (λ row. valueOf s row t) b (byZone s (rowsTo 31 35) (rowsTo 36 40)) ⌝ }
 {
     if s.zone == 1 {
         let b31 = with_row(b, table, s, 31, t);

@@ -12,9 +12,9 @@ use Rattle.integers.proofs.Sums.{eqb-cases, ltb-cases, sum-same, sum-none, sum-
 use Rattle.standard.specs.declared.Settings.{Settings}
 use Rattle.standard.specs.declared.Class.{Class}
 use Rattle.standard.specs.declared.Class.the-variants.{Always, Subset, OneOf, Unknown}
-use Rattle.standard.specs.Kinds.{classOf, groups}
+use Rattle.standard.specs.Kinds.{classOf, groupCount}
 use Rattle.standard.specs.Rows.{factorOf}
-use Rattle.standard.specs.Combination.{cases}
+use Rattle.standard.specs.Combination.{caseCount}
 use Rattle.standard.proofs.Facts.{group-below}
 use Rattle.optimum.specs.Row.{groupBy, groupOf, worthOf, leaderOf, actsBy, actsIn}
 use Rattle.naming.specs.Sets.{leadBit}
@@ -67,16 +67,16 @@ module _ (f positive : Bool) (lead : ℕ → ℕ) (k x : ℕ) where
   abbrev led : Class → ℕ → ℕ
   led q g = when (eqb (groupBy q) g && (f && (eqb (lead g) k && positive))) x
 
-  parted : (q : Class) → ((g : ℕ) → q ≡ OneOf g → g < groups) →
-      when (f && actsBy q positive (eqb (lead (groupBy q)) k)) x ≡ when (isAlways q && f) x + when ((isSubset q && f) && positive) x + sum groups (led q)
+  parted : (q : Class) → ((g : ℕ) → q ≡ OneOf g → g < groupCount) →
+      when (f && actsBy q positive (eqb (lead (groupBy q)) k)) x ≡ when (isAlways q && f) x + when ((isSubset q && f) && positive) x + sum groupCount (led q)
   unfolding sum
   parted Always h = omega (arith, and-true f x)
   parted Subset h = omega arith
   parted (OneOf g) h =
-      let l : g < groups = h g refl in
+      let l : g < groupCount = h g refl in
       omega (
         arith,
-        sum-only groups g (led (OneOf g)) l
+        sum-only groupCount g (led (OneOf g)) l
             (λ j ne. eqb-cases g j (λ t. when (t && (f && (eqb (lead j) k && positive))) x ≡ 0) (λ e. absurd (ne (sym e))) (λ _. refl)),
         eqb-cases g g (λ t. when (t && (f && (eqb (lead g) k && positive))) x ≡ when (f && (eqb (lead g) k && positive)) x) (λ _. refl) (λ ne. absurd (ne refl)),
       )
@@ -104,33 +104,33 @@ module _ (s : Settings) (row : ℕ) (kind : ℕ → ℕ) (x : ℕ → ℤ) where
   abbrev leading : ℕ → ℕ → ℕ
   leading g k = when (own g k && (factored s row kind k && (eqb (leaderOf s row kind x g) k && ltb 0 (up (x k))))) (2 ^ k)
 
-  each : (k : ℕ) → when (actsIn s row kind x k) (2 ^ k) ≡ when (always k) (2 ^ k) + when (positive k) (2 ^ k) + sum groups (λ g. leading g k)
+  each : (k : ℕ) → when (actsIn s row kind x k) (2 ^ k) ≡ when (always k) (2 ^ k) + when (positive k) (2 ^ k) + sum groupCount (λ g. leading g k)
   unfolding actsIn groupOf
   each k = parted (factored s row kind k) (ltb 0 (up (x k))) (leaderOf s row kind x) k (2 ^ k) (classOf (kind k)) (λ g q. group-below (kind k) g q)
 
   -- the lead of a group, as a bit
-  one-lead : (g : ℕ) → sum cases (leading g) ≡ leadBit cases (adds g)
+  one-lead : (g : ℕ) → sum caseCount (leading g) ≡ leadBit caseCount (adds g)
   unfolding leadBit
   one-lead g =
-      ltb-cases 0 (most cases (adds g)) (λ t. sum cases (leading g) ≡ when t (2 ^ mostAt cases (adds g)))
-      (λ h. let m : (mostAt cases (adds g) < cases) × (adds g (mostAt cases (adds g)) ≡ most cases (adds g)) = most-at cases (adds g) h in
-      sum-only cases (mostAt cases (adds g)) (leading g) (m .0)
-      (λ k ne. eqb-cases (mostAt cases (adds g)) k (λ t. when (own g k && (factored s row kind k && (t && ltb 0 (up (x k))))) (2 ^ k) ≡ 0)
+      ltb-cases 0 (most caseCount (adds g)) (λ t. sum caseCount (leading g) ≡ when t (2 ^ mostAt caseCount (adds g)))
+      (λ h. let m : (mostAt caseCount (adds g) < caseCount) × (adds g (mostAt caseCount (adds g)) ≡ most caseCount (adds g)) = most-at caseCount (adds g) h in
+      sum-only caseCount (mostAt caseCount (adds g)) (leading g) (m .0)
+      (λ k ne. eqb-cases (mostAt caseCount (adds g)) k (λ t. when (own g k && (factored s row kind k && (t && ltb 0 (up (x k))))) (2 ^ k) ≡ 0)
       (λ q. absurd (ne (sym q))) (λ _. not-lead (own g k) (factored s row kind k) (ltb 0 (up (x k))) (2 ^ k)))
-      ∙ at-lead (mostAt cases (adds g)) (omega (arith, m .1)))
-      (λ h. sum-none cases (leading g)
-      (λ k l. adds-none (own g k) (eqb (leaderOf s row kind x g) k) (factorOf s row (kind k)) (up (x k)) (2 ^ k) (omega (arith, most-ge cases k (adds g) l))))
+      ∙ at-lead (mostAt caseCount (adds g)) (omega (arith, m .1)))
+      (λ h. sum-none caseCount (leading g)
+      (λ k l. adds-none (own g k) (eqb (leaderOf s row kind x g) k) (factorOf s row (kind k)) (up (x k)) (2 ^ k) (omega (arith, most-ge caseCount k (adds g) l))))
     where
       at-lead : (j : ℕ) → 0 < adds g j → when (own g j && (factored s row kind j && (eqb j j && ltb 0 (up (x j))))) (2 ^ j) ≡ 2 ^ j
       at-lead j h =
           eqb-cases j j (λ t. when (own g j && (factored s row kind j && (t && ltb 0 (up (x j))))) (2 ^ j) ≡ 2 ^ j)
           (λ _. adds-some (own g j) (factorOf s row (kind j)) (up (x j)) (2 ^ j) h) (λ ne. absurd (ne refl))
 
-  pub acting-is : maskOf cases (actsIn s row kind x) ≡ maskOf cases (λ k. isAlways (classOf (kind k)) && factored s row kind k)
-      + maskOf cases (λ k. (isSubset (classOf (kind k)) && factored s row kind k) && ltb 0 (up (x k))) + sum groups (λ g. leadBit cases (worthOf s row kind x g))
+  pub acting-is : maskOf caseCount (actsIn s row kind x) ≡ maskOf caseCount (λ k. isAlways (classOf (kind k)) && factored s row kind k)
+      + maskOf caseCount (λ k. (isSubset (classOf (kind k)) && factored s row kind k) && ltb 0 (up (x k))) + sum groupCount (λ g. leadBit caseCount (worthOf s row kind x g))
   unfolding maskOf
   acting-is =
-      sum-same cases (λ k. when (actsIn s row kind x k) (2 ^ k)) (λ k. when (always k) (2 ^ k) + when (positive k) (2 ^ k) + sum groups (λ g. leading g k)) (λ k l. each k)
-      ∙ sum-plus cases (λ k. when (always k) (2 ^ k) + when (positive k) (2 ^ k)) (λ k. sum groups (λ g. leading g k))
-      ∙ (λ i. sum-plus cases (λ k. when (always k) (2 ^ k)) (λ k. when (positive k) (2 ^ k)) i
-      + (sum-swap cases groups (λ k g. leading g k) ∙ sum-same groups (λ g. sum cases (leading g)) (λ g. leadBit cases (adds g)) (λ g l. one-lead g)) i)
+      sum-same caseCount (λ k. when (actsIn s row kind x k) (2 ^ k)) (λ k. when (always k) (2 ^ k) + when (positive k) (2 ^ k) + sum groupCount (λ g. leading g k)) (λ k l. each k)
+      ∙ sum-plus caseCount (λ k. when (always k) (2 ^ k) + when (positive k) (2 ^ k)) (λ k. sum groupCount (λ g. leading g k))
+      ∙ (λ i. sum-plus caseCount (λ k. when (always k) (2 ^ k)) (λ k. when (positive k) (2 ^ k)) i
+      + (sum-swap caseCount groupCount (λ k g. leading g k) ∙ sum-same groupCount (λ g. sum caseCount (leading g)) (λ g. leadBit caseCount (adds g)) (λ g l. one-lead g)) i)

@@ -15,10 +15,10 @@ use Rattle.integers.proofs.Sums.{eqb-cases, ltb-cases, sum-same, sum-swap}
 use Rattle.standard.specs.declared.Settings.{Settings}
 use Rattle.standard.specs.declared.Class.{Class}
 use Rattle.standard.specs.declared.Class.the-variants.{Always, Subset, OneOf, Unknown}
-use Rattle.standard.specs.Kinds.{classOf, kinds, groups, permanentEarth}
+use Rattle.standard.specs.Kinds.{classOf, kindCount, groupCount, permanentEarth}
 use Rattle.standard.specs.Rows.{factorOf}
 use Rattle.standard.specs.Columns.{kindsIn}
-use Rattle.standard.specs.Combination.{cases}
+use Rattle.standard.specs.Combination.{caseCount}
 use Rattle.standard.proofs.Facts.{kind-in, sharedFactor, shared-factor}
 use Rattle.standard.proofs.Table.{tabulate, same-at}
 use Rattle.optimum.specs.Row.{groupBy, groupOf, worthOf, actsIn, lowIn}
@@ -44,7 +44,7 @@ by-shared f u w h =
     (λ l. ap (λ (y : ℕ). y * u) (h l))
     (λ l. let z : f ≡ 0 = omega arith in rw z (omega arith))
 
-class-of-group : (q : Class) (g : ℕ) → groupBy q ≡ g → g < groups → q ≡ OneOf g
+class-of-group : (q : Class) (g : ℕ) → groupBy q ≡ g → g < groupCount → q ≡ OneOf g
 class-of-group Always g e l = absurd (omega arith)
 class-of-group Subset g e l = absurd (omega arith)
 class-of-group (OneOf h) g e l = ap OneOf e
@@ -53,19 +53,19 @@ class-of-group Unknown g e l = absurd (omega arith)
 -- ---- the cases of a run of kinds
 -- Hp, the kinds of each class and those of each group are a run of kinds
 record Runs : Type 0 where
-  always : tabulate (λ j. isAlways (classOf j)) 0 kinds ≡ tabulate (inRun 1 3) 0 kinds
-  earth : tabulate (λ j. eqb j permanentEarth) 0 kinds ≡ tabulate (inRun 3 1) 0 kinds
-  free : tabulate (λ j. isSubset (classOf j)) 0 kinds ≡ tabulate (inRun 4 2) 0 kinds
-  roof : tabulate (λ j. eqb (groupOf j) 0) 0 kinds ≡ tabulate (inRun 6 3) 0 kinds
-  wind : tabulate (λ j. eqb (groupOf j) 1) 0 kinds ≡ tabulate (inRun 9 1) 0 kinds
-  quake : tabulate (λ j. eqb (groupOf j) 2) 0 kinds ≡ tabulate (inRun 10 1) 0 kinds
-  flood : tabulate (λ j. eqb (groupOf j) 3) 0 kinds ≡ tabulate (inRun 11 1) 0 kinds
+  always : tabulate (λ j. isAlways (classOf j)) 0 kindCount ≡ tabulate (inRun 1 3) 0 kindCount
+  earth : tabulate (λ j. eqb j permanentEarth) 0 kindCount ≡ tabulate (inRun 3 1) 0 kindCount
+  free : tabulate (λ j. isSubset (classOf j)) 0 kindCount ≡ tabulate (inRun 4 2) 0 kindCount
+  roof : tabulate (λ j. eqb (groupOf j) 0) 0 kindCount ≡ tabulate (inRun 6 3) 0 kindCount
+  wind : tabulate (λ j. eqb (groupOf j) 1) 0 kindCount ≡ tabulate (inRun 9 1) 0 kindCount
+  quake : tabulate (λ j. eqb (groupOf j) 2) 0 kindCount ≡ tabulate (inRun 10 1) 0 kindCount
+  flood : tabulate (λ j. eqb (groupOf j) 3) 0 kindCount ≡ tabulate (inRun 11 1) 0 kindCount
 
 runs : Runs
 unfolding classOf groupOf
 runs = record { always = refl; earth = refl; free = refl; roof = refl; wind = refl; quake = refl; flood = refl }
 
-four : (g : ℕ → ℕ) → sum groups g ≡ g 0 + g 1 + g 2 + g 3
+four : (g : ℕ → ℕ) → sum groupCount g ≡ g 0 + g 1 + g 2 + g 3
 unfolding sum
 four g = omega arith
 
@@ -77,23 +77,23 @@ and-exchanged false false c = refl
 
 module _ (places : List ℕ) (kind : ℕ → ℕ) (held : Places places kind) where
   -- the cases whose kind is in the run and among those of the set
-  pub gathered-is : (set first count : ℕ) → 0 < first → first + count ≤ kinds →
-      gatheredOf places set first count ≡ maskOf cases (λ k. inRun first count (kind k) && has set (kind k))
+  pub gathered-is : (set first count : ℕ) → 0 < first → first + count ≤ kindCount →
+      gatheredOf places set first count ≡ maskOf caseCount (λ k. inRun first count (kind k) && has set (kind k))
   unfolding gatheredOf maskOf
   gathered-is set first count h l =
-      sum-same count (λ i. when (has set (first + i)) (getD places (first + i) 0)) (λ i. sum cases (at i))
+      sum-same count (λ i. when (has set (first + i)) (getD places (first + i) 0)) (λ i. sum caseCount (at i))
       (λ i m. ap (λ (y : ℕ). when (has set (first + i)) y) (held .each (first + i) (omega arith) (omega arith))
-      ∙ when-sum (has set (first + i)) cases (λ k. when (eqb (kind k) (first + i)) (2 ^ k)))
-      ∙ sum-swap count cases at
-      ∙ sum-same cases (λ k. sum count (λ i. at i k)) (λ k. when (inRun first count (kind k) && has set (kind k)) (2 ^ k))
+      ∙ when-sum (has set (first + i)) caseCount (λ k. when (eqb (kind k) (first + i)) (2 ^ k)))
+      ∙ sum-swap count caseCount at
+      ∙ sum-same caseCount (λ k. sum count (λ i. at i k)) (λ k. when (inRun first count (kind k) && has set (kind k)) (2 ^ k))
       (λ k m. sum-run (has set) first count (kind k) (2 ^ k))
     where
       at : ℕ → ℕ → ℕ
       at i k = when (has set (first + i)) (when (eqb (kind k) (first + i)) (2 ^ k))
 
-  gathered-below : (set first count : ℕ) → 0 < first → first + count ≤ kinds → gatheredOf places set first count < 2 ^ cases
+  gathered-below : (set first count : ℕ) → 0 < first → first + count ≤ kindCount → gatheredOf places set first count < 2 ^ caseCount
   gathered-below set first count h l =
-      omega (arith, gathered-is set first count h l, mask-below cases (λ k. inRun first count (kind k) && has set (kind k)))
+      omega (arith, gathered-is set first count h l, mask-below caseCount (λ k. inRun first count (kind k) && has set (kind k)))
 
   pub chosen-in-range : (row : ℕ) → ChosenInRange (chosenOf row places)
   unfolding chosenOf
@@ -109,38 +109,38 @@ module _ (places : List ℕ) (kind : ℕ → ℕ) (held : Places places kind) wh
       }
 
   pub places-in-range : PlacesInRange places
-  places-in-range = record { long = held .long; each = λ j h l. omega (arith, held .each j h l, mask-below cases (λ k. eqb (kind k) j)) }
+  places-in-range = record { long = held .long; each = λ j h l. omega (arith, held .each j h l, mask-below caseCount (λ k. eqb (kind k) j)) }
 
-  module _ (below : (k : ℕ) → kind k < kinds) (s : Settings) (row : ℕ) where
+  module _ (below : (k : ℕ) → kind k < kindCount) (s : Settings) (row : ℕ) where
     -- where the kinds that pass a test are a run: its cases are those whose kind passes the test and has a factor
-    module _ (test : ℕ → Bool) (first count : ℕ) (h : 0 < first) (l : first + count ≤ kinds)
-        (run : tabulate test 0 kinds ≡ tabulate (inRun first count) 0 kinds) where
+    module _ (test : ℕ → Bool) (first count : ℕ) (h : 0 < first) (l : first + count ≤ kindCount)
+        (run : tabulate test 0 kindCount ≡ tabulate (inRun first count) 0 kindCount) where
       abbrev passing : ℕ → Bool
       passing k = test (kind k) && factored s row kind k
 
-      run-passing : gatheredOf places (kindsIn row) first count ≡ maskOf cases passing
+      run-passing : gatheredOf places (kindsIn row) first count ≡ maskOf caseCount passing
       run-passing =
           gathered-is (kindsIn row) first count h l
-          ∙ mask-same cases (λ k. inRun first count (kind k) && has (kindsIn row) (kind k)) passing
-          (λ k m. λ i. sym (same-at test (inRun first count) 0 kinds (kind k) run (omega arith) (omega (arith, below k))) i && kind-in s row (kind k) (below k) i)
+          ∙ mask-same caseCount (λ k. inRun first count (kind k) && has (kindsIn row) (kind k)) passing
+          (λ k m. λ i. sym (same-at test (inRun first count) 0 kindCount (kind k) run (omega arith) (omega (arith, below k))) i && kind-in s row (kind k) (below k) i)
 
-      member-passing : (k : ℕ) → k < cases → has (gatheredOf places (kindsIn row) first count) k ≡ passing k
-      member-passing k m = ap (λ (set : ℕ). has set k) run-passing ∙ bit-in-mask cases passing k m
+      member-passing : (k : ℕ) → k < caseCount → has (gatheredOf places (kindsIn row) first count) k ≡ passing k
+      member-passing k m = ap (λ (set : ℕ). has set k) run-passing ∙ bit-in-mask caseCount passing k m
 
       -- and those of them that pass another test
-      members-passing : (q : ℕ → Bool) → maskOf cases (λ k. has (gatheredOf places (kindsIn row) first count) k && q k) ≡ maskOf cases (λ k. passing k && q k)
+      members-passing : (q : ℕ → Bool) → maskOf caseCount (λ k. has (gatheredOf places (kindsIn row) first count) k && q k) ≡ maskOf caseCount (λ k. passing k && q k)
       members-passing q =
-          mask-same cases (λ k. has (gatheredOf places (kindsIn row) first count) k && q k) (λ k. passing k && q k)
+          mask-same caseCount (λ k. has (gatheredOf places (kindsIn row) first count) k && q k) (λ k. passing k && q k)
           (λ k m. ap (λ (t : Bool). t && q k) (member-passing k m))
 
     module _ (x : ℕ → ℤ) where
       -- the lead among a group's cases by their effects is the lead by what they add
-      lead-is : (g first count : ℕ) → g < groups → 0 < first → first + count ≤ kinds →
-          tabulate (λ j. eqb (groupOf j) g) 0 kinds ≡ tabulate (inRun first count) 0 kinds →
-          leadBit cases (λ k. when (has (gatheredOf places (kindsIn row) first count) k) (up (x k))) ≡ leadBit cases (worthOf s row kind x g)
+      lead-is : (g first count : ℕ) → g < groupCount → 0 < first → first + count ≤ kindCount →
+          tabulate (λ j. eqb (groupOf j) g) 0 kindCount ≡ tabulate (inRun first count) 0 kindCount →
+          leadBit caseCount (λ k. when (has (gatheredOf places (kindsIn row) first count) k) (up (x k))) ≡ leadBit caseCount (worthOf s row kind x g)
       unfolding groupOf
       lead-is g first count m h l run =
-          lead-multiple cases w (λ k. when (has (gatheredOf places (kindsIn row) first count) k) (up (x k))) (worthOf s row kind x g) (omega arith)
+          lead-multiple caseCount w (λ k. when (has (gatheredOf places (kindsIn row) first count) k) (up (x k))) (worthOf s row kind x g) (omega arith)
           (λ k n. by-group k ∙ ap (λ (t : Bool). w * when t (up (x k))) (sym (member-passing (λ j. eqb (groupOf j) g) first count h l run k n)))
         where
           -- the factor that the group's cases share, or 1 where none has a factor
@@ -154,13 +154,13 @@ module _ (places : List ℕ) (kind : ℕ → ℕ) (held : Places places kind) wh
               (λ p. omega (arith, shared-factor s row (kind k) g (class-of-group (classOf (kind k)) g e m) p)))
               (λ _. omega arith)
 
-      pub named-acting : namedOf (chosenOf row places) x .acting ≡ maskOf cases (actsIn s row kind x)
+      pub named-acting : namedOf (chosenOf row places) x .acting ≡ maskOf caseCount (actsIn s row kind x)
       unfolding namedOf chosenOf
       named-acting =
           omega (
             arith,
             acting-is s row kind x,
-            four (λ g. leadBit cases (worthOf s row kind x g)),
+            four (λ g. leadBit caseCount (worthOf s row kind x g)),
             run-passing (λ j. isAlways (classOf j)) 1 3 (omega arith) (omega arith) (runs .always),
             members-passing (λ j. isSubset (classOf j)) 4 2 (omega arith) (omega arith) (runs .free) (λ k. ltb 0 (up (x k))),
             lead-is 0 6 3 (omega arith) (omega arith) (omega arith) (runs .roof),
@@ -169,9 +169,9 @@ module _ (places : List ℕ) (kind : ℕ → ℕ) (held : Places places kind) wh
             lead-is 3 11 1 (omega arith) (omega arith) (omega arith) (runs .flood),
           )
 
-      pub named-low : namedOf (chosenOf row places) x .low ≡ maskOf cases (lowIn s row kind x)
+      pub named-low : namedOf (chosenOf row places) x .low ≡ maskOf caseCount (lowIn s row kind x)
       unfolding namedOf chosenOf lowIn
       named-low =
           members-passing (λ j. eqb j permanentEarth) 3 1 (omega arith) (omega arith) (runs .earth) (λ k. ltb 0 (down (x k)))
-          ∙ mask-same cases (λ k. (eqb (kind k) permanentEarth && factored s row kind k) && ltb 0 (down (x k))) (lowIn s row kind x)
+          ∙ mask-same caseCount (λ k. (eqb (kind k) permanentEarth && factored s row kind k) && ltb 0 (down (x k))) (lowIn s row kind x)
           (λ k m. and-exchanged (eqb (kind k) permanentEarth) (factored s row kind k) (ltb 0 (down (x k))))

@@ -15,7 +15,7 @@ use Rattle.integers.proofs.Masks.{mask-below}
 use Rattle.integers.proofs.Signs.{eq-in, one-part}
 use Rattle.integers.proofs.Sums.{ltb-cases}
 use Rattle.integers.proofs.Walks.{Walk, Met, walk-from, walk-meets, walk-end}
-use Rattle.standard.specs.Combination.{cases}
+use Rattle.standard.specs.Combination.{caseCount}
 use Rattle.naming.specs.declared.Marked.{Marked}
 use Rattle.naming.specs.Sets.{leadBit, markedIn, markedWith}
 use Rattle.integers.proofs.Folds.{mask-more, mask-skip, most-more}
@@ -88,19 +88,19 @@ module _ (p : ℕ → Bool) (x : ℕ → ℤ) where
 
 -- ---- the walk over the members
 abbrev pub Marking : ℕ → (ℕ → ℤ) → ℕ → Marked → Type 0
-Marking set x rest m = Walk (has set) cases (markedIn (has set) x) rest m
+Marking set x rest m = Walk (has set) caseCount (markedIn (has set) x) rest m
 
 module _ (set : ℕ) (x : ℕ → ℤ) where
-  pub marking-from : set < 2 ^ cases → Marking set x set (record { above = 0; below = 0; lead = 0; most = pos 0 })
+  pub marking-from : set < 2 ^ caseCount → Marking set x set (record { above = 0; below = 0; lead = 0; most = pos 0 })
   unfolding maskOf sum leadBit most
-  marking-from h = walk-from cases set (markedIn (has set) x) _ h refl
+  marking-from h = walk-from caseCount set (markedIn (has set) x) _ h refl
 
-  pub marking-end : (rest : ℕ) (m : Marked) → rest ≡ 0 → Marking set x rest m → m ≡ markedIn (has set) x cases
-  marking-end rest m e w = walk-end (has set) cases (markedIn (has set) x) (λ k l. not-member (has set) x k) m (rw e at w)
+  pub marking-end : (rest : ℕ) (m : Marked) → rest ≡ 0 → Marking set x rest m → m ≡ markedIn (has set) x caseCount
+  marking-end rest m e w = walk-end (has set) caseCount (markedIn (has set) x) (λ k l. not-member (has set) x k) m (rw e at w)
 
 -- a turn of the walk, at the lowest member t of the rest, whose bit is `bit`
 pub record Turn (set : ℕ) (x : ℕ → ℤ) (rest t : ℕ) (m : Marked) : Type 0 where
-  pub inside : t < cases
+  pub inside : t < caseCount
   pub held : (bit : ℕ) → bit ≡ 2 ^ t → bit ≤ rest
   pub less : (bit : ℕ) → bit ≡ 2 ^ t → rest - bit < rest
   pub room : (bit : ℕ) → bit ≡ 2 ^ t → (m .above + bit < 2 ^ 64) × (m .below + bit < 2 ^ 64)
@@ -108,7 +108,7 @@ pub record Turn (set : ℕ) (x : ℕ → ℤ) (rest t : ℕ) (m : Marked) : Type
 
 pub turn : (set : ℕ) (x : ℕ → ℤ) (rest t : ℕ) (m : Marked) → Marking set x rest m → Lowest rest t → Turn set x rest t m
 turn set x rest t m w low =
-    let met : Met (has set) cases (markedIn (has set) x) rest t m = walk-meets (has set) cases (markedIn (has set) x) (λ k l. not-member (has set) x k) rest t m w low in
+    let met : Met (has set) caseCount (markedIn (has set) x) rest t m = walk-meets (has set) caseCount (markedIn (has set) x) (λ k l. not-member (has set) x k) rest t m w low in
     let small : 2 ^ t < 2 ^ 32 = pow-lt (met .inside) in
     record {
       inside = met .inside;

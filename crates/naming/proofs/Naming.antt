@@ -14,8 +14,8 @@ use Rattle.integers.specs.Sums.{when, sum, most, mostAt, up}
 use Rattle.integers.specs.Sets.{has}
 use Rattle.integers.proofs.Masks.{mask-below}
 use Rattle.integers.proofs.Sums.{ltb-cases, most-at, when-le, sum-most}
-use Rattle.standard.specs.Kinds.{kinds}
-use Rattle.standard.specs.Combination.{cases}
+use Rattle.standard.specs.Kinds.{kindCount}
+use Rattle.standard.specs.Combination.{caseCount}
 use Rattle.envelope.specs.Places.{PlacesInRange}
 use Rattle.naming.specs.declared.Marked.{Marked}
 use Rattle.naming.specs.declared.Chosen.{Chosen}
@@ -24,11 +24,11 @@ use Rattle.naming.specs.Sets.{leadBit, markedIn, gatheredOf, ChosenInRan
 
 -- ---- the cases of a run of kinds
 -- there is room for each kind's cases
-pub gathered-small : (places : List ℕ) (factored first count : ℕ) → PlacesInRange places → 0 < first → first + count ≤ kinds →
-    gatheredOf places factored first count ≤ count * 2 ^ cases
+pub gathered-small : (places : List ℕ) (factored first count : ℕ) → PlacesInRange places → 0 < first → first + count ≤ kindCount →
+    gatheredOf places factored first count ≤ count * 2 ^ caseCount
 unfolding gatheredOf
 gathered-small places factored first count range h l =
-    sum-most count (2 ^ cases) (λ i. when (has factored (first + i)) (getD places (first + i) 0))
+    sum-most count (2 ^ caseCount) (λ i. when (has factored (first + i)) (getD places (first + i) 0))
     (λ i m. omega (arith, when-le (has factored (first + i)) (getD places (first + i) 0), range .each (first + i) (omega arith) (omega arith)))
 
 -- one kind more
@@ -43,12 +43,12 @@ unfolding leadBit
 lead-below n g =
     ltb-cases 0 (most n g) (λ t. when t (2 ^ mostAt n g) < 2 ^ n) (λ h. pow-lt (most-at n g h .0)) (λ _. pow-pos n)
 
-module _ (p : ℕ → Bool) (x : ℕ → ℤ) (m : Marked) (e : m ≡ markedIn p x cases) where
-  above-small : m .above < 2 ^ cases
-  above-small = subst (λ (a : Marked). a .above < 2 ^ cases) (sym e) (mask-below cases (λ k. p k && ltb 0 (up (x k))))
+module _ (p : ℕ → Bool) (x : ℕ → ℤ) (m : Marked) (e : m ≡ markedIn p x caseCount) where
+  above-small : m .above < 2 ^ caseCount
+  above-small = subst (λ (a : Marked). a .above < 2 ^ caseCount) (sym e) (mask-below caseCount (λ k. p k && ltb 0 (up (x k))))
 
-  lead-small : m .lead < 2 ^ cases
-  lead-small = subst (λ (a : Marked). a .lead < 2 ^ cases) (sym e) (lead-below cases (λ k. when (p k) (up (x k))))
+  lead-small : m .lead < 2 ^ caseCount
+  lead-small = subst (λ (a : Marked). a .lead < 2 ^ caseCount) (sym e) (lead-below caseCount (λ k. when (p k) (up (x k))))
 
 -- what is marked of each set of cases chosen
 module _ (d : Chosen) (range : ChosenInRange d) (c : Chosen) (is : c ≡ d) where
@@ -56,9 +56,9 @@ module _ (d : Chosen) (range : ChosenInRange d) (c : Chosen) (is : c ≡ d) wher
   chosen-small = subst ChosenInRange (sym is) range
 
   module _ (x : ℕ → ℤ) (earth free roof wind quake flood : Marked)
-      (is-earth : earth ≡ markedIn (has (c .earth)) x cases) (is-free : free ≡ markedIn (has (c .free)) x cases)
-      (is-roof : roof ≡ markedIn (has (c .roof)) x cases) (is-wind : wind ≡ markedIn (has (c .wind)) x cases)
-      (is-quake : quake ≡ markedIn (has (c .quake)) x cases) (is-flood : flood ≡ markedIn (has (c .flood)) x cases) where
+      (is-earth : earth ≡ markedIn (has (c .earth)) x caseCount) (is-free : free ≡ markedIn (has (c .free)) x caseCount)
+      (is-roof : roof ≡ markedIn (has (c .roof)) x caseCount) (is-wind : wind ≡ markedIn (has (c .wind)) x caseCount)
+      (is-quake : quake ≡ markedIn (has (c .quake)) x caseCount) (is-flood : flood ≡ markedIn (has (c .flood)) x caseCount) where
     pub six-small : MarkedSix (c .always) earth free roof wind quake flood
     six-small =
         record {

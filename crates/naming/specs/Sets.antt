@@ -9,7 +9,7 @@ use lib.Signed.{ltZ}
 use Rattle.integers.specs.Sums.{when, sum, most, mostAt, maskOf, up, down}
 use Rattle.integers.specs.Sets.{has}
 use Rattle.standard.specs.Columns.{kindsIn}
-use Rattle.standard.specs.Combination.{cases}
+use Rattle.standard.specs.Combination.{caseCount}
 use Rattle.naming.specs.declared.Marked.{Marked}
 use Rattle.naming.specs.declared.Chosen.{Chosen}
 use Rattle.naming.specs.declared.Sets.{Sets}
@@ -56,13 +56,13 @@ chosenOf row places =
 
 -- each is a set of cases
 pub record ChosenInRange (c : Chosen) : Type 0 where
-  pub always : c .always < 2 ^ cases
-  pub earth : c .earth < 2 ^ cases
-  pub free : c .free < 2 ^ cases
-  pub roof : c .roof < 2 ^ cases
-  pub wind : c .wind < 2 ^ cases
-  pub quake : c .quake < 2 ^ cases
-  pub flood : c .flood < 2 ^ cases
+  pub always : c .always < 2 ^ caseCount
+  pub earth : c .earth < 2 ^ caseCount
+  pub free : c .free < 2 ^ caseCount
+  pub roof : c .roof < 2 ^ caseCount
+  pub wind : c .wind < 2 ^ caseCount
+  pub quake : c .quake < 2 ^ caseCount
+  pub flood : c .flood < 2 ^ caseCount
 
 -- the sets that the cases marked make
 abbrev pub namedBy : (always : ℕ) → (earth free roof wind quake flood : Marked) → Sets
@@ -70,14 +70,14 @@ namedBy always earth free roof wind quake flood =
     record { acting = always + free .above + (roof .lead + wind .lead + quake .lead + flood .lead); low = earth .below }
 
 pub record MarkedSix (always : ℕ) (earth free roof wind quake flood : Marked) : Type 0 where
-  pub always-small : always < 2 ^ cases
-  pub free-small : free .above < 2 ^ cases
-  pub roof-small : roof .lead < 2 ^ cases
-  pub wind-small : wind .lead < 2 ^ cases
-  pub quake-small : quake .lead < 2 ^ cases
-  pub flood-small : flood .lead < 2 ^ cases
+  pub always-small : always < 2 ^ caseCount
+  pub free-small : free .above < 2 ^ caseCount
+  pub roof-small : roof .lead < 2 ^ caseCount
+  pub wind-small : wind .lead < 2 ^ caseCount
+  pub quake-small : quake .lead < 2 ^ caseCount
+  pub flood-small : flood .lead < 2 ^ caseCount
 
 unfoldable pub namedOf : Chosen → (ℕ → ℤ) → Sets
 namedOf c x =
-    namedBy (c .always) (markedIn (has (c .earth)) x cases) (markedIn (has (c .free)) x cases) (markedIn (has (c .roof)) x cases)
-    (markedIn (has (c .wind)) x cases) (markedIn (has (c .quake)) x cases) (markedIn (has (c .flood)) x cases)
+    namedBy (c .always) (markedIn (has (c .earth)) x caseCount) (markedIn (has (c .free)) x caseCount) (markedIn (has (c .roof)) x caseCount)
+    (markedIn (has (c .wind)) x caseCount) (markedIn (has (c .quake)) x caseCount) (markedIn (has (c .flood)) x caseCount)

@@ -3,9 +3,9 @@ ghost use Prim.Native.Nat.{_+_, _<_, _≤_, _^_};
 ghost use lib.IntN.{natAbs};
 ghost use Rattle.integers.specs.Sums.{when};
 ghost use Rattle.integers.specs.Sets.{has};
-ghost use Rattle.standard.specs.Combination.{cases};
-ghost use Rattle.standard.specs.Kinds.{kinds};
-ghost use Rattle.standard.specs.Rows.{rows};
+ghost use Rattle.standard.specs.Combination.{caseCount};
+ghost use Rattle.standard.specs.Kinds.{kindCount};
+ghost use Rattle.standard.specs.Rows.{rowCount};
 ghost use Rattle.envelope.specs.Range.{effectOf, EffectsInRange, WeightsInRange};
 ghost use Rattle.envelope.specs.Envelope.{weighed};
 ghost use Rattle.envelope.specs.Directions.{turned};
@@ -80,8 +80,8 @@ fn signed(minus: bool, x: i64) -> i64
 
 // The cases of a set by their effects on a component.
 fn marked_at(set: u64, effects: &[i16], component: usize, minus: bool) -> Marked
-    requires { ⌜ (set < 2 ^ cases) × EffectsInRange (now effects) × (component < 3) ⌝ }
-    ensures { λ r. ⌜ r ≡ markedIn (has set) (λ k. turned minus (effectOf (now (effects .entry)) k component)) cases ⌝ }
+    requires { ⌜ (set < 2 ^ caseCount) × EffectsInRange (now effects) × (component < 3) ⌝ }
+    ensures { λ r. ⌜ r ≡ markedIn (has set) (λ k. turned minus (effectOf (now (effects .entry)) k component)) caseCount ⌝ }
 {
     let mut m = Marked {
         above: 0,
@@ -103,7 +103,7 @@ fn marked_at(set: u64, effects: &[i16], component: usize, minus: bool) -> Marked
 
 // The weighed effect of case k.
 fn weighed_case(effects: &[i16], k: usize, w: Weights) -> i64
-    requires { ⌜ (k < cases) × EffectsInRange (now effects) × WeightsInRange w ⌝ }
+    requires { ⌜ (k < caseCount) × EffectsInRange (now effects) × WeightsInRange w ⌝ }
     ensures { λ r. ⌜ r ≡ weighed w (effectOf (now (effects .entry))) k ⌝ }
 {
     let at = k * 3;
@@ -117,8 +117,8 @@ fn weighed_case(effects: &[i16], k: usize, w: Weights) -> i64
 
 // The cases of a set by their weighed effects.
 fn marked_by(set: u64, effects: &[i16], w: Weights) -> Marked
-    requires { ⌜ (set < 2 ^ cases) × EffectsInRange (now effects) × WeightsInRange w ⌝ }
-    ensures { λ r. ⌜ r ≡ markedIn (has set) (weighed w (effectOf (now (effects .entry)))) cases ⌝ }
+    requires { ⌜ (set < 2 ^ caseCount) × EffectsInRange (now effects) × WeightsInRange w ⌝ }
+    ensures { λ r. ⌜ r ≡ markedIn (has set) (weighed w (effectOf (now (effects .entry)))) caseCount ⌝ }
 {
     let mut m = Marked {
         above: 0,
@@ -139,7 +139,7 @@ fn marked_by(set: u64, effects: &[i16], w: Weights) -> Marked
 
 // The cases of the `count` kinds from `first` on that are among `factored`.
 fn gathered(places: &[u64], factored: u16, first: usize, count: usize) -> u64
-    requires { ⌜ PlacesInRange (now places) × (0 < first) × (first + count ≤ kinds) ⌝ }
+    requires { ⌜ PlacesInRange (now places) × (0 < first) × (first + count ≤ kindCount) ⌝ }
     ensures { λ r. ⌜ r ≡ gatheredOf (now (places .entry)) factored first count ⌝ }
 {
     let mut set: u64 = 0;
@@ -157,7 +157,7 @@ fn gathered(places: &[u64], factored: u16, first: usize, count: usize) -> u64
 
 // The cases that may act in a row, by how they may.
 fn chosen_in(row: usize, places: &[u64]) -> Chosen
-    requires { ⌜ (row < rows) × PlacesInRange (now places) ⌝ }
+    requires { ⌜ (row < rowCount) × PlacesInRange (now places) ⌝ }
     ensures { λ r. ⌜ r ≡ chosenOf row (now (places .entry)) ⌝ }
 {
     let factored = standard::kinds_in(row);
@@ -194,7 +194,7 @@ fn named(
 
 // The sets of the best combination of a row, for a component's effects with their sign turned or not.
 pub fn sets_at(row: usize, places: &[u64], effects: &[i16], component: usize, minus: bool) -> Sets
-    requires { ⌜ (row < rows) × PlacesInRange (now places) × ChosenInRange (chosenOf row (now places)) × EffectsInRange (now effects) × (component < 3) ⌝ }
+    requires { ⌜ (row < rowCount) × PlacesInRange (now places) × ChosenInRange (chosenOf row (now places)) × EffectsInRange (now effects) × (component < 3) ⌝ }
     ensures { λ r. ⌜ r ≡ namedOf (chosenOf row (now (places .entry))) (λ k. turned minus (effectOf (now (effects .entry)) k component)) ⌝ }
 {
     let c = chosen_in(row, places);
@@ -209,7 +209,7 @@ pub fn sets_at(row: usize, places: &[u64], effects: &[i16], component: usize, mi
 
 // The same for the weighed effects.
 pub fn sets_by(row: usize, places: &[u64], effects: &[i16], w: Weights) -> Sets
-    requires { ⌜ (row < rows) × PlacesInRange (now places) × ChosenInRange (chosenOf row (now places)) × EffectsInRange (now effects) × WeightsInRange w ⌝ }
+    requires { ⌜ (row < rowCount) × PlacesInRange (now places) × ChosenInRange (chosenOf row (now places)) × EffectsInRange (now effects) × WeightsInRange w ⌝ }
     ensures { λ r. ⌜ r ≡ namedOf (chosenOf row (now (places .entry))) (weighed w (effectOf (now (effects .entry)))) ⌝ }
 {
     let c = chosen_in(row, places);

@@ -14,15 +14,15 @@ use Rattle.integers.proofs.Sums.{eqb-cases, sum-parts}
 use Rattle.standard.specs.declared.Settings.{Settings}
 use Rattle.standard.specs.declared.Class.{Class}
 use Rattle.standard.specs.declared.Class.the-variants.{Always, Subset, OneOf, Unknown}
-use Rattle.standard.specs.Kinds.{classOf, groups, permanentEarth}
+use Rattle.standard.specs.Kinds.{classOf, groupCount, permanentEarth}
 use Rattle.standard.specs.Rows.{factorOf, lowOf}
-use Rattle.standard.specs.Combination.{Combination, Admissible, taken, factoredEffect, cases}
+use Rattle.standard.specs.Combination.{Combination, Admissible, taken, factoredEffect, caseCount}
 use Rattle.standard.proofs.Facts.{low-le-full, unknown-none, group-below}
 use Rattle.optimum.specs.Row.{leastBy, greatestBy, groupBy, lowerOf, leastOf, greatestOf, groupOf, gainOf, lossOf, rowMaximum}
 use Rattle.optimum.proofs.Bound.{bound}
 
 -- two classes are not one
-pub apart : {A : Type 0} (q r : Class) → groupBy q < groups → groups ≤ groupBy r → q ≡ r → A
+pub apart : {A : Type 0} (q r : Class) → groupBy q < groupCount → groupCount ≤ groupBy r → q ≡ r → A
 apart q r h k e = let m : groupBy q ≡ groupBy r = ap groupBy e in absurd (omega arith)
 
 pub subset-always : {A : Type 0} → Subset ≡ Always → A
@@ -40,9 +40,9 @@ record Fair (q : Class) (f low : ℕ) (h a l : Bool) : Type 0 where
   low-least : T h → 0 < f → low ≤ f
   earth-always : T h → q ≡ Always
   unknown : q ≡ Unknown → f ≡ 0
-  group : (g : ℕ) → q ≡ OneOf g → g < groups
+  group : (g : ℕ) → q ≡ OneOf g → g < groupCount
 
-own-by : (q : Class) (f low : ℕ) (h a l : Bool) → Fair q f low h a l → groups ≤ groupBy q →
+own-by : (q : Class) (f low : ℕ) (h a l : Bool) → Fair q f low h a l → groupCount ≤ groupBy q →
     (leastBy q (cond h (min low f) f) ≤ cond a (cond l low f) 0) × (cond a (cond l low f) 0 ≤ greatestBy q f)
 own-by Always f low true true true p m = (omega arith, p .low-least tt (p .factored tt))
 own-by Always f low false true true p m = absurd (p .low-earth tt)
@@ -58,7 +58,7 @@ own-by (OneOf g) f low h a l p m = absurd (omega (arith, p .group g refl))
 own-by Unknown f low h true l p m = absurd (omega (arith, p .factored tt, p .unknown refl))
 own-by Unknown f low h false l p m = (omega arith, omega arith)
 
-grouped-by : (q : Class) (f low : ℕ) (h a l : Bool) → Fair q f low h a l → groupBy q < groups →
+grouped-by : (q : Class) (f low : ℕ) (h a l : Bool) → Fair q f low h a l → groupBy q < groupCount →
     (leastBy q (cond h (min low f) f) ≡ 0) × (cond a (cond l low f) 0 ≤ f)
 grouped-by Always f low h a l p m = absurd (omega arith)
 grouped-by Subset f low h a l p m = absurd (omega arith)
@@ -68,7 +68,7 @@ grouped-by (OneOf g) f low h false l p m = (refl, omega arith)
 grouped-by Unknown f low h a l p m = absurd (omega arith)
 
 -- a class with a group is that of the group
-in-group : (q : Class) → groupBy q < groups → q ≡ OneOf (groupBy q)
+in-group : (q : Class) → groupBy q < groupCount → q ≡ OneOf (groupBy q)
 in-group Always m = absurd (omega arith)
 in-group Subset m = absurd (omega arith)
 in-group (OneOf g) m = refl
@@ -105,17 +105,17 @@ module _ (s : Settings) (kind : ℕ → ℕ) (e : ℕ → ℤ) (c : Combination)
   unfolding factoredEffect rowMaximum leastOf greatestOf groupOf lowerOf
   row-bound =
       let row : ℕ = c .row in
-      let effect : ℤ = sumℤ cases (λ k. pos (taken s kind c k) *ℤ e k) in
+      let effect : ℤ = sumℤ caseCount (λ k. pos (taken s kind c k) *ℤ e k) in
       le-in effect (rowMaximum s row kind e)
       (omega (
         arith,
-        sum-parts cases (taken s kind c) e,
-        bound cases groups (λ k. groupOf (kind k)) (λ k. factorOf s row (kind k)) (λ k. greatestOf s row (kind k)) (λ k. leastOf s row (kind k))
+        sum-parts caseCount (taken s kind c) e,
+        bound caseCount groupCount (λ k. groupOf (kind k)) (λ k. factorOf s row (kind k)) (λ k. greatestOf s row (kind k)) (λ k. leastOf s row (kind k))
             (λ k. up (e k)) (λ k. down (e k)) (taken s kind c)
             (λ k m. own-by (classOf (kind k)) (factorOf s row (kind k)) (lowOf s) (eqb (kind k) permanentEarth) (c .acting k) (c .low k) (fair k) m)
             (λ k m. grouped-by (classOf (kind k)) (factorOf s row (kind k)) (lowOf s) (eqb (kind k) permanentEarth) (c .acting k) (c .low k) (fair k) m)
             (λ j k m p x y. ok .single (groupOf (kind k)) j k
-            (in-group (classOf (kind j)) (subst (λ (g : ℕ). g < groups) (sym p) m) ∙ ap OneOf p) (in-group (classOf (kind k)) m)
+            (in-group (classOf (kind j)) (subst (λ (g : ℕ). g < groupCount) (sym p) m) ∙ ap OneOf p) (in-group (classOf (kind k)) m)
             (acts-of (c .acting j) (c .low j) (lowOf s) (factorOf s row (kind j)) x) (acts-of (c .acting k) (c .low k) (lowOf s) (factorOf s row (kind k)) y)),
         add-parts (pos (gainOf s row kind e)) (negℤ (pos (lossOf s row kind e))),
         neg-up (pos (lossOf s row kind e)),

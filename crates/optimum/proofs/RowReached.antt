@@ -14,12 +14,12 @@ use Rattle.integers.proofs.Sums.{eqb-cases, ltb-cases, sum-parts}
 use Rattle.standard.specs.declared.Settings.{Settings}
 use Rattle.standard.specs.declared.Class.{Class}
 use Rattle.standard.specs.declared.Class.the-variants.{Always, Subset, OneOf, Unknown}
-use Rattle.standard.specs.Kinds.{classOf, groups, permanentEarth}
+use Rattle.standard.specs.Kinds.{classOf, groupCount, permanentEarth}
 use Rattle.standard.specs.Rows.{factorOf, lowOf, openRow}
-use Rattle.standard.specs.Combination.{Combination, Admissible, taken, factoredEffect, cases}
+use Rattle.standard.specs.Combination.{Combination, Admissible, taken, factoredEffect, caseCount}
 use Rattle.standard.specs.Governing.{Reaches}
 use Rattle.standard.proofs.Facts.{group-below}
-use Rattle.optimum.specs.Row.{leastBy, greatestBy, groupBy, lowerOf, leastOf, greatestOf, groupOf, leaderOf, gainOf, lossOf, rowMaximum, actsBy, actsIn, lowIn, bestIn}
+use Rattle.optimum.specs.Row.{leastBy, greatestBy, groupBy, lowerOf, leastOf, greatestOf, groupOf, leaderOf, gainOf, lossOf, rowMaximum, actsBy, actsIn, lowIn, bestCombination}
 use Rattle.optimum.proofs.Attained.{attained-up, attained-down}
 use Rattle.optimum.proofs.RowBound.{apart, earth-always, low-least}
 
@@ -34,7 +34,7 @@ no-factor Subset h low f m = (omega arith, refl)
 no-factor (OneOf g) h low f m = (refl, refl)
 no-factor Unknown h low f m = (refl, refl)
 
-up-by : (q : Class) (first h : Bool) (low f : ℕ) → groups ≤ groupBy q → ((g : ℕ) → q ≡ OneOf g → g < groups) →
+up-by : (q : Class) (first h : Bool) (low f : ℕ) → groupCount ≤ groupBy q → ((g : ℕ) → q ≡ OneOf g → g < groupCount) →
     given q true true first h false low f ≡ greatestBy q f
 up-by Always first true low f m n = refl
 up-by Always first false low f m n = refl
@@ -43,7 +43,7 @@ up-by Subset first false low f m n = refl
 up-by (OneOf g) first h low f m n = absurd (omega (arith, n g refl))
 up-by Unknown first h low f m n = refl
 
-down-by : (q : Class) (first h : Bool) (low f : ℕ) → groups ≤ groupBy q → ((g : ℕ) → q ≡ OneOf g → g < groups) → (T h → low ≤ f) →
+down-by : (q : Class) (first h : Bool) (low f : ℕ) → groupCount ≤ groupBy q → ((g : ℕ) → q ≡ OneOf g → g < groupCount) → (T h → low ≤ f) →
     given q true false first h true low f ≡ leastBy q (cond h (min low f) f)
 down-by Always first true low f m n l = let k : low ≤ f = l tt in omega arith
 down-by Always first false low f m n l = refl
@@ -51,7 +51,7 @@ down-by Subset first h low f m n l = refl
 down-by (OneOf g) first h low f m n l = absurd (omega (arith, n g refl))
 down-by Unknown first h low f m n l = refl
 
-lead-by : (q : Class) (p first h d : Bool) (low f : ℕ) → groupBy q < groups → (T h → q ≡ Always) →
+lead-by : (q : Class) (p first h d : Bool) (low f : ℕ) → groupBy q < groupCount → (T h → q ≡ Always) →
     given q true p first h d low f ≡ when (first && p) f
 lead-by Always p first h d low f m n = absurd (omega arith)
 lead-by Subset p first h d low f m n = absurd (omega arith)
@@ -59,7 +59,7 @@ lead-by (OneOf g) p first true d low f m n = apart (OneOf g) Always m (omega ari
 lead-by (OneOf g) p first false d low f m n = refl
 lead-by Unknown p first h d low f m n = absurd (omega arith)
 
-grouped-zero : (q : Class) (f l : ℕ) → groupBy q < groups → (greatestBy q f ≡ 0) × (leastBy q l ≡ 0)
+grouped-zero : (q : Class) (f l : ℕ) → groupBy q < groupCount → (greatestBy q f ≡ 0) × (leastBy q l ≡ 0)
 grouped-zero Always f l m = absurd (omega arith)
 grouped-zero Subset f l m = absurd (omega arith)
 grouped-zero (OneOf g) f l m = (refl, refl)
@@ -79,7 +79,7 @@ down-alone (negsuc n) h = omega arith
 
 module _ (s : Settings) (row : ℕ) (kind : ℕ → ℕ) (e : ℕ → ℤ) where
   abbrev φ : ℕ → ℕ
-  φ = taken s kind (bestIn s row kind e)
+  φ = taken s kind (bestCombination s row kind e)
 
   abbrev first : ℕ → Bool
   first k = eqb (leaderOf s row kind e (groupOf (kind k))) k
@@ -90,7 +90,7 @@ module _ (s : Settings) (row : ℕ) (kind : ℕ → ℕ) (e : ℕ → ℤ) where
   abbrev f : ℕ → ℕ
   f k = factorOf s row (kind k)
 
-  own-up : (k : ℕ) → groups ≤ groupOf (kind k) → 0 < up (e k) → φ k ≡ greatestOf s row (kind k)
+  own-up : (k : ℕ) → groupCount ≤ groupOf (kind k) → 0 < up (e k) → φ k ≡ greatestOf s row (kind k)
   unfolding actsIn lowIn greatestOf groupOf
   own-up k m p =
       rw (lt-ltb 0 (up (e k)) p, le-ltb 0 (down (e k)) (omega (arith, up-alone (e k) p)))
@@ -98,7 +98,7 @@ module _ (s : Settings) (row : ℕ) (kind : ℕ → ℕ) (e : ℕ → ℤ) where
       (λ x. up-by (classOf (kind k)) (first k) (isEarth k) (lowOf s) (f k) m (group-below (kind k)))
       (λ x. sym (no-factor (classOf (kind k)) (isEarth k) (lowOf s) (f k) x .0)))
 
-  own-down : (k : ℕ) → groups ≤ groupOf (kind k) → 0 < down (e k) → φ k ≡ leastOf s row (kind k)
+  own-down : (k : ℕ) → groupCount ≤ groupOf (kind k) → 0 < down (e k) → φ k ≡ leastOf s row (kind k)
   unfolding actsIn lowIn leastOf lowerOf groupOf
   own-down k m p =
       rw (lt-ltb 0 (down (e k)) p, le-ltb 0 (up (e k)) (down-alone (e k) p))
@@ -107,7 +107,7 @@ module _ (s : Settings) (row : ℕ) (kind : ℕ → ℕ) (e : ℕ → ℤ) where
       (λ x. down-by (classOf (kind k)) (first k) (isEarth k) (lowOf s) (f k) m (group-below (kind k)) (λ h. low-least s row (kind k) h x))
       (λ x. sym (no-factor (classOf (kind k)) (isEarth k) (lowOf s) (f k) x .1)))
 
-  leader : (k : ℕ) → groupOf (kind k) < groups → φ k ≡ when (first k && ltb 0 (up (e k))) (f k)
+  leader : (k : ℕ) → groupOf (kind k) < groupCount → φ k ≡ when (first k && ltb 0 (up (e k))) (f k)
   unfolding actsIn lowIn groupOf
   leader k m =
       ltb-cases 0 (f k)
@@ -115,23 +115,23 @@ module _ (s : Settings) (row : ℕ) (kind : ℕ → ℕ) (e : ℕ → ℤ) where
       (λ x. lead-by (classOf (kind k)) (ltb 0 (up (e k))) (first k) (isEarth k) (ltb 0 (down (e k))) (lowOf s) (f k) m (earth-always (kind k)))
       (λ x. when-zero (first k && ltb 0 (up (e k))) (f k) x)
 
-  grouped : (k : ℕ) → groupOf (kind k) < groups → (greatestOf s row (kind k) ≡ 0) × (leastOf s row (kind k) ≡ 0)
+  grouped : (k : ℕ) → groupOf (kind k) < groupCount → (greatestOf s row (kind k) ≡ 0) × (leastOf s row (kind k) ≡ 0)
   unfolding greatestOf leastOf groupOf
   grouped k m = grouped-zero (classOf (kind k)) (f k) (lowerOf s row (kind k)) m
 
-  exact : factoredEffect s kind (bestIn s row kind e) e ≡ rowMaximum s row kind e
+  exact : factoredEffect s kind (bestCombination s row kind e) e ≡ rowMaximum s row kind e
   unfolding factoredEffect rowMaximum
   exact =
       let hi : ℕ → ℕ = λ k. greatestOf s row (kind k) in
       let lo : ℕ → ℕ = λ k. leastOf s row (kind k) in
       let u : ℕ → ℕ = λ k. up (e k) in
       let d : ℕ → ℕ = λ k. down (e k) in
-      eq-in (sumℤ cases (λ k. pos (φ k) *ℤ e k)) (rowMaximum s row kind e)
+      eq-in (sumℤ caseCount (λ k. pos (φ k) *ℤ e k)) (rowMaximum s row kind e)
       (omega (
         arith,
-        sum-parts cases φ e,
-        attained-up cases groups (λ k. groupOf (kind k)) f hi lo u d φ (λ k. up-alone (e k)) grouped own-up own-down leader,
-        attained-down cases groups (λ k. groupOf (kind k)) f hi lo u d φ (λ k. up-alone (e k)) grouped own-up own-down leader,
+        sum-parts caseCount φ e,
+        attained-up caseCount groupCount (λ k. groupOf (kind k)) f hi lo u d φ (λ k. up-alone (e k)) grouped own-up own-down leader,
+        attained-down caseCount groupCount (λ k. groupOf (kind k)) f hi lo u d φ (λ k. up-alone (e k)) grouped own-up own-down leader,
         add-parts (pos (gainOf s row kind e)) (negℤ (pos (lossOf s row kind e))),
         neg-up (pos (lossOf s row kind e)),
         neg-down (pos (lossOf s row kind e)),
@@ -158,7 +158,7 @@ module _ (s : Settings) (row : ℕ) (kind : ℕ → ℕ) (e : ℕ → ℤ) where
   unfolding actsIn
   has-factor k t = ltb→lt 0 (f k) (and-left (ltb 0 (f k)) (actsBy (classOf (kind k)) (ltb 0 (up (e k))) (first k)) t)
 
-  pub row-reached : T (openRow s row) → Reaches s kind e (bestIn s row kind e) (rowMaximum s row kind e)
+  pub row-reached : T (openRow s row) → Reaches s kind e (bestCombination s row kind e) (rowMaximum s row kind e)
   row-reached o =
       record {
         admissible =

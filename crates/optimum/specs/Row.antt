@@ -7,9 +7,9 @@ use Rattle.integers.specs.Sums.{sum, most, up, down}
 use Rattle.standard.specs.declared.Settings.{Settings}
 use Rattle.standard.specs.declared.Class.{Class}
 use Rattle.standard.specs.declared.Class.the-variants.{Always, Subset, OneOf, Unknown}
-use Rattle.standard.specs.Kinds.{classOf, groups, permanentEarth}
+use Rattle.standard.specs.Kinds.{classOf, groupCount, permanentEarth}
 use Rattle.standard.specs.Rows.{factorOf, lowOf}
-use Rattle.standard.specs.Combination.{Combination, cases}
+use Rattle.standard.specs.Combination.{Combination, caseCount}
 use Rattle.optimum.specs.Factors.{worth, leads}
 
 -- the least and the greatest factor that a case of a class takes by itself; the cases of a group are counted apart
@@ -26,10 +26,10 @@ greatestBy (OneOf g) f = 0
 greatestBy Unknown f = 0
 
 abbrev pub groupBy : Class → ℕ
-groupBy Always = groups
-groupBy Subset = groups
+groupBy Always = groupCount
+groupBy Subset = groupCount
 groupBy (OneOf g) = g
-groupBy Unknown = groups
+groupBy Unknown = groupCount
 
 -- the lower of the factors that an acting case of a kind may take
 unfoldable pub lowerOf : Settings → ℕ → ℕ → ℕ
@@ -49,14 +49,14 @@ abbrev pub worthOf : Settings → ℕ → (ℕ → ℕ) → (ℕ → ℤ) → �
 worthOf s row kind e = worth (λ k. groupOf (kind k)) (λ k. factorOf s row (kind k)) (λ k. up (e k))
 
 abbrev pub leaderOf : Settings → ℕ → (ℕ → ℕ) → (ℕ → ℤ) → ℕ → ℕ
-leaderOf s row kind e = leads cases (λ k. groupOf (kind k)) (λ k. factorOf s row (kind k)) (λ k. up (e k))
+leaderOf s row kind e = leads caseCount (λ k. groupOf (kind k)) (λ k. factorOf s row (kind k)) (λ k. up (e k))
 
 -- positive effects at the greatest factor, negative ones at the least, and the best case of each group
 abbrev pub gainOf : Settings → ℕ → (ℕ → ℕ) → (ℕ → ℤ) → ℕ
-gainOf s row kind e = sum cases (λ k. greatestOf s row (kind k) * up (e k)) + sum groups (λ g. most cases (worthOf s row kind e g))
+gainOf s row kind e = sum caseCount (λ k. greatestOf s row (kind k) * up (e k)) + sum groupCount (λ g. most caseCount (worthOf s row kind e g))
 
 abbrev pub lossOf : Settings → ℕ → (ℕ → ℕ) → (ℕ → ℤ) → ℕ
-lossOf s row kind e = sum cases (λ k. leastOf s row (kind k) * down (e k))
+lossOf s row kind e = sum caseCount (λ k. leastOf s row (kind k) * down (e k))
 
 unfoldable pub rowMaximum : Settings → ℕ → (ℕ → ℕ) → (ℕ → ℤ) → ℤ
 rowMaximum s row kind e = pos (gainOf s row kind e) -ℤ pos (lossOf s row kind e)
@@ -76,5 +76,5 @@ actsIn s row kind e k =
 unfoldable pub lowIn : Settings → ℕ → (ℕ → ℕ) → (ℕ → ℤ) → ℕ → Bool
 lowIn s row kind e k = ltb 0 (factorOf s row (kind k)) && (eqb (kind k) permanentEarth && ltb 0 (down (e k)))
 
-abbrev pub bestIn : Settings → ℕ → (ℕ → ℕ) → (ℕ → ℤ) → Combination
-bestIn s row kind e = record { row = row; acting = actsIn s row kind e; low = lowIn s row kind e }
+abbrev pub bestCombination : Settings → ℕ → (ℕ → ℕ) → (ℕ → ℤ) → Combination
+bestCombination s row kind e = record { row = row; acting = actsIn s row kind e; low = lowIn s row kind e }

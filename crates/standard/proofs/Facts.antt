@@ -1,8 +1,8 @@
 -- Facts of every row, kind and setting, each by one test that antt computes over the whole list of lines or of classes.
 -- Assumes nothing.
-use mathlib.Core.List.{List, [], _∷_, map}
+use mathlib.Core.List.{List, [], _∷_, _++_, map}
 use mathlib.Core.Path.{_≡_, refl, ap, _∙_, subst}
-use mathlib.Core.Bool.{Bool, true, false, cond, _||_}
+use mathlib.Core.Bool.{Bool, true, false, cond, _&&_, _||_}
 use mathlib.Core.Logic.{_⊎_, inl, inr}
 use Prim.Native.Nat.{ℕ, zero, suc, _≤_, _<_}
 use native.Mathlib.Omega.{arith}
@@ -11,13 +11,12 @@ use lib.ListN.{getD}
 use Rattle.integers.specs.Sums.{sum, maskOf}
 use Rattle.integers.specs.Sets.{has}
 use Rattle.integers.proofs.Masks.{bit-in-mask}
-use Rattle.integers.proofs.Tests.{or-cases}
+use Rattle.integers.proofs.Tests.{and-left, and-right, and-both, or-cases}
 use Rattle.standard.specs.declared.Settings.{Settings}
-use Rattle.standard.specs.declared.Span.{Span}
 use Rattle.standard.specs.declared.Class.{Class}
 use Rattle.standard.specs.declared.Class.the-variants.{Always, Subset, OneOf, Unknown}
-use Rattle.standard.specs.Kinds.{classes, classOf, kinds, groups, permanentEarth}
-use Rattle.standard.specs.Rows.{Live, num, f, Line, blank, lines, liveFactor, roofFactor, snowFactor, columns, rows, factorOf, lowOf, span, plainRows, floodRows}
+use Rattle.standard.specs.Kinds.{classes, classOf, kindCount, groupCount, permanentEarth}
+use Rattle.standard.specs.Rows.{Live, num, f, Line, blank, lines, liveFactor, roofFactor, snowFactor, columns, rowCount, factorOf, lowOf, Span, rowsTo, plainRows, byZone, floodRows, openRows, within, inSpans}
 use Rattle.standard.specs.Columns.{factoredKinds, kindsIn}
 use Rattle.standard.proofs.Table.{same-at, all, all-at, all₂, all₂-at}
 
@@ -81,38 +80,78 @@ unknown-none s r k e =
 group-test : Class → Bool
 group-test Always = true
 group-test Subset = true
-group-test (OneOf g) = ltb g groups
+group-test (OneOf g) = ltb g groupCount
 group-test Unknown = true
 
-pub group-below : (k g : ℕ) → classOf k ≡ OneOf g → g < groups
+pub group-below : (k g : ℕ) → classOf k ≡ OneOf g → g < groupCount
 unfolding classOf group-test
-group-below k g e = ltb→lt g groups (subst (λ (c : Class). T (group-test c)) e (all-at group-test classes Unknown tt tt k))
+group-below k g e = ltb→lt g groupCount (subst (λ (c : Class). T (group-test c)) e (all-at group-test classes Unknown tt tt k))
 
-module _ (P : Span → Type 0) (s : Settings) where
-  plain-all : P (span 1 9) → P (span 21 31) → P (span 0 0) → P (plainRows s)
-  unfolding plainRows
-  plain-all a b n = of-both P (eqb (s .method) 1) _ _ a (of-both P (eqb (s .method) 2) _ _ b n)
+-- ---- the open rows
+-- a span has a row, and its rows are in the table
+inTable : Span → Bool
+inTable p = leb (p .first) (p .last) && ltb (p .last) rowCount
 
-  flood-all : P (span 9 11) → P (span 11 13) → P (span 31 36) → P (span 36 41) → P (span 0 0) → P (floodRows s)
-  unfolding floodRows
-  flood-all a b c d n = of-both P (eqb (s .method) 1) _ _ (zone a b) (of-both P (eqb (s .method) 2) _ _ (zone c d) n)
-    where
-      zone : {x y : Span} → P x → P y → P (cond (eqb (s .zone) 1) x (cond (eqb (s .zone) 2) y (span 0 0)))
-      zone p q = of-both P (eqb (s .zone) 1) _ _ p (of-both P (eqb (s .zone) 2) _ _ q n)
+abbrev allInTable : List Span → Type 0
+allInTable ps = T (all inTable ps)
 
-pub plain-below : (s : Settings) → plainRows s .to ≤ rows
-plain-below s = plain-all (λ p. p .to ≤ rows) s (omega arith) (omega arith) (omega arith)
+joined : (ps qs : List Span) → allInTable ps → allInTable qs → allInTable (ps ++ qs)
+joined [] qs a b = b
+joined (p ∷ ps) qs a b =
+    and-both (inTable p) (all inTable (ps ++ qs)) (and-left (inTable p) (all inTable ps) a) (joined ps qs (and-right (inTable p) (all inTable ps) a) b)
 
-pub flood-below : (s : Settings) → floodRows s .to ≤ rows
-flood-below s = flood-all (λ p. p .to ≤ rows) s (omega arith) (omega arith) (omega arith) (omega arith) (omega arith)
+open-in-table : (s : Settings) → allInTable (openRows s)
+unfolding openRows plainRows floodRows inTable
+open-in-table s =
+    joined (plainRows s) (floodRows s) (by-method (rowsTo 1 8 ∷ []) (rowsTo 21 30 ∷ []) tt tt)
+    (by-method (byZone s (rowsTo 9 10) (rowsTo 11 12)) (byZone s (rowsTo 31 35) (rowsTo 36 40)) (by-zone (rowsTo 9 10) (rowsTo 11 12) tt tt) (by-zone (rowsTo 31 35) (rowsTo 36 40) tt tt))
+  where
+    by-method : (ps qs : List Span) → allInTable ps → allInTable qs → allInTable (cond (eqb (s .method) 1) ps (cond (eqb (s .method) 2) qs []))
+    by-method ps qs a b = of-both allInTable (eqb (s .method) 1) ps (cond (eqb (s .method) 2) qs []) a (of-both allInTable (eqb (s .method) 2) qs [] b tt)
 
-pub plain-from : (s : Settings) → plainRows s .from < rows
-plain-from s = plain-all (λ p. p .from < rows) s (omega arith) (omega arith) (omega arith)
+    by-zone : (p q : Span) → allInTable (p ∷ []) → allInTable (q ∷ []) → allInTable (byZone s p q)
+    by-zone p q a b = of-both allInTable (eqb (s .zone) 1) (p ∷ []) (cond (eqb (s .zone) 2) (q ∷ []) []) a (of-both allInTable (eqb (s .zone) 2) (q ∷ []) [] b tt)
 
-pub plain-some : (s : Settings) → (s .method ≡ 1) ⊎ (s .method ≡ 2) → plainRows s .from < plainRows s .to
-unfolding plainRows
-plain-some s (inl e) = rw e (omega arith)
-plain-some s (inr e) = rw e (omega arith)
+-- the first row of the first span
+pub record Begins (p : Span) (ps : List Span) : Type 0 where
+  pub some : p .first ≤ p .last
+  pub below : (r : ℕ) → T (inSpans (p ∷ ps) r) → r < rowCount
+
+spans-below : (ps : List Span) → allInTable ps → (r : ℕ) → T (inSpans ps r) → r < rowCount
+unfolding inTable
+spans-below [] a r t = absurd t
+spans-below (p ∷ ps) a r t = go (spans-below ps (and-right (inTable p) (all inTable ps) a) r) (or-cases (within p r) (inSpans ps r) t)
+  where
+    go : (T (inSpans ps r) → r < rowCount) → T (within p r) ⊎ T (inSpans ps r) → r < rowCount
+    go later (inl w) =
+        omega (
+          arith,
+          leb→le r (p .last) (and-right (leb (p .first) r) (leb r (p .last)) w),
+          ltb→lt (p .last) rowCount (and-right (leb (p .first) (p .last)) (ltb (p .last) rowCount) (and-left (inTable p) (all inTable ps) a)),
+        )
+    go later (inr w) = later w
+
+pub begins : (s : Settings) (p : Span) (ps : List Span) → openRows s ≡ p ∷ ps → Begins p ps
+unfolding inTable
+begins s p ps e =
+    let a : allInTable (p ∷ ps) = subst allInTable e (open-in-table s) in
+    record {
+      some = leb→le (p .first) (p .last) (and-left (leb (p .first) (p .last)) (ltb (p .last) rowCount) (and-left (inTable p) (all inTable ps) a));
+      below = spans-below (p ∷ ps) a;
+    }
+
+-- a known method opens some rows
+some : List Span → Bool
+some [] = false
+some (p ∷ ps) = true
+
+pub some-open : (s : Settings) → (s .method ≡ 1) ⊎ (s .method ≡ 2) → openRows s ≡ [] → ⊥
+unfolding openRows plainRows some
+some-open s m e = subst (λ (ps : List Span). T (some ps)) e (known m)
+  where
+    known : (s .method ≡ 1) ⊎ (s .method ≡ 2) → T (some (openRows s))
+    known (inl q) = rw q tt
+    known (inr q) = rw q tt
 
 -- ---- the kinds of a row
 getD-map : {A : Type 0} (q : A → ℕ) (xs : List A) (d : A) (k : ℕ) → getD (map q xs) k (q d) ≡ q (getD xs k d)
@@ -121,7 +160,7 @@ getD-map q (x ∷ xs) d zero = refl
 getD-map q (x ∷ xs) d (suc k) = getD-map q xs d k
 
 -- the live option gives L another factor, and never takes it away
-live-stays : (l : Line) (halved : Bool) (k : ℕ) → k < kinds → ltb 0 (getD (columns false l) k 0) ≡ ltb 0 (getD (columns halved l) k 0)
+live-stays : (l : Line) (halved : Bool) (k : ℕ) → k < kindCount → ltb 0 (getD (columns false l) k 0) ≡ ltb 0 (getD (columns halved l) k 0)
 live-stays l false k h = refl
 live-stays l true k h =
     same-at (λ j. ltb 0 (getD (columns false l) j 0)) (λ j. ltb 0 (getD (columns true l) j 0)) 0 12 k (λ i. ltb 0 0
@@ -138,11 +177,11 @@ blank-none : 0 ≡ factoredKinds blank
 unfolding maskOf sum
 blank-none = refl
 
-pub kind-in : (s : Settings) (r k : ℕ) → k < kinds → has (kindsIn r) k ≡ ltb 0 (factorOf s r k)
+pub kind-in : (s : Settings) (r k : ℕ) → k < kindCount → has (kindsIn r) k ≡ ltb 0 (factorOf s r k)
 unfolding kindsIn factorOf
 kind-in s r k h =
     ap (λ (m : ℕ). has m k) (ap (λ (d : ℕ). getD (map factoredKinds lines) r d) blank-none ∙ getD-map factoredKinds lines blank r)
-    ∙ bit-in-mask kinds (λ j. ltb 0 (getD (columns false (getD lines r blank)) j 0)) k h
+    ∙ bit-in-mask kindCount (λ j. ltb 0 (getD (columns false (getD lines r blank)) j 0)) k h
     ∙ live-stays (getD lines r blank) (eqb (s .live) 1) k h
 
 -- the kinds of a group that have a factor in a row have the same one

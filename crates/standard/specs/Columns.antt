@@ -5,7 +5,7 @@ use mathlib.Core.List.{List, [], _∷_, map}
 use lib.ListN.{getD}
 use lib.Dec.{ltb}
 use Rattle.integers.specs.Sums.{maskOf}
-use Rattle.standard.specs.Kinds.{kinds}
+use Rattle.standard.specs.Kinds.{kindCount}
 use Rattle.standard.specs.Rows.{Line, lines, blank, columns, liveFactor, roofFactor, snowFactor}
 
 -- of each row the columns D, F, H, L, L with live option 1, roof, S, W, E, Fa
@@ -29,7 +29,7 @@ columnOf halved kind = getD (kindColumns halved) kind 0
 
 -- the kinds that have a factor in a row, whatever the live option, as a set: bit j is kind j
 abbrev pub factoredKinds : Line → ℕ
-factoredKinds l = maskOf kinds (λ j. ltb 0 (getD (columns false l) j 0))
+factoredKinds l = maskOf kindCount (λ j. ltb 0 (getD (columns false l) j 0))
 
 unfoldable pub kindsIn : ℕ → ℕ
 kindsIn row = getD (map factoredKinds lines) row 0

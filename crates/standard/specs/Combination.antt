@@ -34,12 +34,12 @@ pub record Admissible (s : Settings) (kind : ℕ → ℕ) (c : Combination) : Ty
 abbrev pub taken : Settings → (ℕ → ℕ) → Combination → ℕ → ℕ
 taken s kind c k = cond (c .acting k) (cond (c .low k) (lowOf s) (factorOf s (c .row) (kind k))) 0
 
-abbrev pub cases : ℕ
-cases = 32
+abbrev pub caseCount : ℕ
+caseCount = 32
 
 -- a component's factored effect: the sum of factor × effect over acting cases
 unfoldable pub factoredEffect : Settings → (ℕ → ℕ) → Combination → (ℕ → ℤ) → ℤ
-factoredEffect s kind c effect = sumℤ cases (λ k. pos (taken s kind c k) *ℤ effect k)
+factoredEffect s kind c effect = sumℤ caseCount (λ k. pos (taken s kind c k) *ℤ effect k)
 
 -- |n| × Yc × Zc + |y| × Nc × Zc + |z| × Nc × Yc
 unfoldable pub numeratorOf : Capacities → ℤ → ℤ → ℤ → ℕ

@@ -21,11 +21,11 @@ unfoldable pub classOf : ℕ → Class
 classOf kind = getD classes kind Unknown
 
 -- the numbers of groups and of kinds, the empty place among them
-abbrev pub groups : ℕ
-groups = 4
+abbrev pub groupCount : ℕ
+groupCount = 4
 
-abbrev pub kinds : ℕ
-kinds = 12
+abbrev pub kindCount : ℕ
+kindCount = 12
 
 -- Hp, whose cases may take the low factor
 abbrev pub permanentEarth : ℕ

@@ -1,11 +1,10 @@
 -- 01, 'Lines of the standard': the factor of a kind in a row, in thousandths, and the rows that are open. 0 is no factor.
-use Prim.Native.Nat.{ℕ}
-use mathlib.Core.Bool.{Bool, cond, _&&_, _||_}
+use Prim.Native.Nat.{ℕ, _-_}
+use mathlib.Core.Bool.{Bool, false, cond, _&&_, _||_}
 use mathlib.Core.List.{List, [], _∷_, _++_, map}
-use lib.Dec.{eqb, leb, ltb}
-use lib.ListN.{getD, take, drop, replicate}
+use lib.Dec.{eqb, leb}
+use lib.ListN.{getD, replicate}
 use Rattle.standard.specs.declared.Settings.{Settings}
-use Rattle.standard.specs.declared.Span.{Span}
 
 -- the column L: a number, or f, which is 1000, or 500 with live option 1
 pub data Live : Type 0 where
@@ -61,37 +60,45 @@ allowable =
     ∷ line 600 600 (num 0) (any 0) 0 700 1000
     ∷ []
 
+-- by their numbers
+abbrev pub strengthRow : ℕ → Line
+strengthRow row = getD strength (row - 1) blank
+
+abbrev pub allowableRow : ℕ → Line
+allowableRow row = getD allowable (row - 21) blank
+
 -- a line with other factors for W, E and Fa
 abbrev pub changed : ℕ → ℕ → ℕ → Line → Line
 changed w e fa l =
     record { dead = l .dead; fluid = l .fluid; live = l .live; roof = l .roof; wind = w; quake = e; earth = l .earth; flood = fa }
 
--- with Fa, where the line has no E or is to have none
+-- with Fa and no E
 abbrev pub flooded : ℕ → Line → Line
 flooded fa l = changed (l .wind) 0 fa l
 
--- rows 5 and 7; rows 25 to 29
-abbrev pub windLines : List Line
-windLines = getD strength 4 blank ∷ getD strength 6 blank ∷ []
+-- with W and Fa
+abbrev pub floodedWind : ℕ → ℕ → Line → Line
+floodedWind w fa l = changed w 0 fa l
 
-abbrev pub lateralLines : List Line
-lateralLines = take 5 (drop 4 allowable)
+-- Rows 9 and 10 are rows 5 and 7 with Fa 2000, rows 11 and 12 the same rows with W 500 and Fa 1000.
+abbrev pub strengthFlood : List Line
+strengthFlood =
+    flooded 2000 (strengthRow 5) ∷ flooded 2000 (strengthRow 7)
+    ∷ floodedWind 500 1000 (strengthRow 5) ∷ floodedWind 500 1000 (strengthRow 7)
+    ∷ []
 
--- Rows 0 to 40; a number that no row has is blank. Rows 9 and 10 are rows 5 and 7 with Fa 2000, rows 11 and 12 the same
--- with W 500 and Fa 1000, rows 31 to 35 are rows 25 to 29 with Fa 1500 and E 0, rows 36 to 40 the same with Fa 750.
+-- Rows 31 to 35 are rows 25 to 29 with Fa 1500 and E 0, rows 36 to 40 the same rows with Fa 750.
+abbrev pub allowableFlood : ℕ → List Line
+allowableFlood fa = map (λ row. flooded fa (allowableRow row)) (25 ∷ 26 ∷ 27 ∷ 28 ∷ 29 ∷ [])
+
+-- rows 0 to 40; a number that no row has is blank
 abbrev pub lines : List Line
 lines =
     blank
-    ∷ (strength
-    ++ (map (flooded 2000) windLines
-    ++ (map (changed 500 0 1000) windLines
-    ++ (replicate 8 blank
-    ++ (allowable
-    ++ (map (flooded 1500) lateralLines
-    ++ map (flooded 750) lateralLines))))))
+    ∷ (strength ++ (strengthFlood ++ (replicate 8 blank ++ (allowable ++ (allowableFlood 1500 ++ allowableFlood 750)))))
 
-abbrev pub rows : ℕ
-rows = 41
+abbrev pub rowCount : ℕ
+rowCount = 41
 
 abbrev pub liveFactor : Bool → Live → ℕ
 liveFactor halved (num x) = x
@@ -124,22 +131,36 @@ factorOf s row kind = getD (columns (eqb (s .live) 1) (getD lines row blank)) ki
 unfoldable pub lowOf : Settings → ℕ
 lowOf s = cond (eqb (s .method) 1) 900 600
 
--- the rows from the first number on, below the second
-abbrev pub span : ℕ → ℕ → Span
-span a b = record { from = a; to = b }
+-- the rows from one number to another, both among them
+pub record Span : Type 0 where
+  pub first : ℕ
+  pub last : ℕ
+
+abbrev pub rowsTo : ℕ → ℕ → Span
+rowsTo a b = record { first = a; last = b }
 
 -- method 1 opens rows 1 to 8, method 2 rows 21 to 30
-unfoldable pub plainRows : Settings → Span
-plainRows s = cond (eqb (s .method) 1) (span 1 9) (cond (eqb (s .method) 2) (span 21 31) (span 0 0))
+unfoldable pub plainRows : Settings → List Span
+plainRows s = cond (eqb (s .method) 1) (rowsTo 1 8 ∷ []) (cond (eqb (s .method) 2) (rowsTo 21 30 ∷ []) [])
 
--- flood rows are further rows: 9 and 10 in method 1, zone 1; 11 and 12 in zone 2; 31 to 35 and 36 to 40 in method 2
-unfoldable pub floodRows : Settings → Span
+-- some rows in zone 1, others in zone 2
+abbrev pub byZone : Settings → Span → Span → List Span
+byZone s one two = cond (eqb (s .zone) 1) (one ∷ []) (cond (eqb (s .zone) 2) (two ∷ []) [])
+
+-- flood rows are further rows; the plain ones remain
+unfoldable pub floodRows : Settings → List Span
 floodRows s =
-    cond (eqb (s .method) 1) (cond (eqb (s .zone) 1) (span 9 11) (cond (eqb (s .zone) 2) (span 11 13) (span 0 0)))
-    (cond (eqb (s .method) 2) (cond (eqb (s .zone) 1) (span 31 36) (cond (eqb (s .zone) 2) (span 36 41) (span 0 0))) (span 0 0))
+    cond (eqb (s .method) 1) (byZone s (rowsTo 9 10) (rowsTo 11 12)) (cond (eqb (s .method) 2) (byZone s (rowsTo 31 35) (rowsTo 36 40)) [])
+
+unfoldable pub openRows : Settings → List Span
+openRows s = plainRows s ++ floodRows s
 
 abbrev pub within : Span → ℕ → Bool
-within p row = leb (p .from) row && ltb row (p .to)
+within p row = leb (p .first) row && leb row (p .last)
+
+abbrev pub inSpans : List Span → ℕ → Bool
+inSpans [] row = false
+inSpans (p ∷ ps) row = within p row || inSpans ps row
 
 unfoldable pub openRow : Settings → ℕ → Bool
-openRow s row = within (plainRows s) row || within (floodRows s) row
+openRow s row = inSpans (openRows s) row

@@ -1,9 +1,18 @@
 ghost use mathlib.Core.Path.{_≡_};
 ghost use mathlib.Core.Bool.{false};
 ghost use Prim.Native.Nat.{_<_};
-ghost use Rattle.standard.specs.Kinds.{classOf, kinds};
-ghost use Rattle.standard.specs.Rows.{rows, factorOf, lowOf};
+ghost use Rattle.standard.specs.Kinds.{classOf, kindCount};
+ghost use Rattle.standard.specs.Rows.{rowCount, factorOf, lowOf};
 ghost use Rattle.standard.specs.Columns.{columnOf, rowTable, kindsIn};
+
+// Kinds are numbered from 1, so that 0 is an empty place; rows are numbered as in docs/FIELDS.md.
+pub const KINDS: usize = 12;
+
+pub const ROWS: usize = 41;
+
+pub const CASES: usize = 32;
+
+const COLUMNS: usize = 10;
 
 // What a sheet sets for all its combinations.
 pub struct Settings {
@@ -18,12 +27,6 @@ pub enum Class {
     Subset,
     OneOf(usize),
     Unknown,
-}
-
-// The rows from `from` on, below `to`.
-pub struct Span {
-    pub from: usize,
-    pub to: usize,
 }
 
 // A station's capacities.
@@ -45,11 +48,10 @@ pub fn class_of(kind: usize) -> Class
     }
 }
 
-// A row has ten columns.
-pub type RowTable = [[u16; 10]; 41];
+pub type RowTable = [[u16; COLUMNS]; ROWS];
 
 // Rows by number; the columns are D, F, H, L, L with live option 1, roof, S, W, E, Fa.
-const ROWS: RowTable = [
+const LINES: RowTable = [
     [0, 0, 0, 0, 0, 0, 0, 0, 0, 0],
     [1400, 1400, 0, 0, 0, 0, 0, 0, 0, 0],
     [1200, 1200, 1600, 1600, 1600, 500, 500, 0, 0, 0],
@@ -94,7 +96,7 @@ const ROWS: RowTable = [
 ];
 
 // By row: bit j where kind j has a factor.
-const ROW_KINDS: [u16; 41] = [
+const ROW_KINDS: [u16; ROWS] = [
     0,
     6,
     510,
@@ -156,12 +158,12 @@ fn column(kind: usize) -> usize
 pub fn row_table() -> RowTable
     ensures { λ r. ⌜ r ≡ rowTable ⌝ }
 {
-    ROWS
+    LINES
 }
 
 // The factor of a kind in a row. Both columns of L are read, so that a constant row and kind fold to constants.
 pub fn factor(table: &RowTable, s: Settings, row: usize, kind: usize) -> u16
-    requires { ⌜ (row < rows) × (0 < kind) × (kind < kinds) × (now table ≡ rowTable) ⌝ }
+    requires { ⌜ (row < rowCount) × (0 < kind) × (kind < kindCount) × (now table ≡ rowTable) ⌝ }
     ensures { λ r. ⌜ r ≡ factorOf s row kind ⌝ }
 {
     let c = column(kind);
@@ -177,7 +179,7 @@ pub fn factor(table: &RowTable, s: Settings, row: usize, kind: usize) -> u16
 
 // The kinds that have a factor in a row, as a set: bit j is kind j.
 pub fn kinds_in(row: usize) -> u16
-    requires { ⌜ row < rows ⌝ }
+    requires { ⌜ row < rowCount ⌝ }
     ensures { λ r. ⌜ r ≡ kindsIn row ⌝ }
 {
     ROW_KINDS[row]

@@ -8,8 +8,8 @@ use lib.IntN.{ℤ, negℤ}
 use Rattle.integers.specs.Sums.{maskOf}
 use Rattle.integers.proofs.Masks.{mask-below}
 use Rattle.standard.specs.declared.Settings.{Settings}
-use Rattle.standard.specs.Kinds.{kinds}
-use Rattle.standard.specs.Combination.{cases}
+use Rattle.standard.specs.Kinds.{kindCount}
+use Rattle.standard.specs.Combination.{caseCount}
 use Rattle.optimum.specs.Row.{actsIn, lowIn}
 use Rattle.envelope.specs.declared.Best.{Best}
 use Rattle.envelope.specs.declared.Extreme.{Extreme}
@@ -19,16 +19,16 @@ use Rattle.naming.specs.declared.Sets.{Sets}
 use Rattle.naming.specs.Sets.{chosenOf, namedOf}
 use Rattle.naming.proofs.BestSets.{named-acting, named-low}
 
-module _ (s : Settings) (kind : ℕ → ℕ) (below : (k : ℕ) → kind k < kinds) (places : List ℕ) (held : Places places kind)
+module _ (s : Settings) (kind : ℕ → ℕ) (below : (k : ℕ) → kind k < kindCount) (places : List ℕ) (held : Places places kind)
     (x : ℕ → ℤ) (row : ℕ) (sets : Sets) (named : sets ≡ namedOf (chosenOf row places) x) where
-  acting-is : sets .acting ≡ maskOf cases (actsIn s row kind x)
+  acting-is : sets .acting ≡ maskOf caseCount (actsIn s row kind x)
   acting-is = ap (λ (y : Sets). y .acting) named ∙ named-acting places kind held below s row x
 
-  low-is : sets .low ≡ maskOf cases (lowIn s row kind x)
+  low-is : sets .low ≡ maskOf caseCount (lowIn s row kind x)
   low-is = ap (λ (y : Sets). y .low) named ∙ named-low places kind held below s row x
 
-  pub sets-fit : (sets .acting < 2 ^ cases) × (sets .low < 2 ^ cases)
-  sets-fit = (omega (arith, acting-is, mask-below cases (actsIn s row kind x)), omega (arith, low-is, mask-below cases (lowIn s row kind x)))
+  pub sets-fit : (sets .acting < 2 ^ caseCount) × (sets .low < 2 ^ caseCount)
+  sets-fit = (omega (arith, acting-is, mask-below caseCount (actsIn s row kind x)), omega (arith, low-is, mask-below caseCount (lowIn s row kind x)))
 
   module _ (r : Extreme) (value : ℤ) (o : r .row ≡ row) (a : r .acting ≡ sets .acting) (l : r .low ≡ sets .low) where
     pub extreme-is : r .value ≡ value → r ≡ extremeIn s kind x (record { row = row; value = value })

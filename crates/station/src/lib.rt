@@ -1,6 +1,6 @@
 ghost use mathlib.Core.Path.{_≡_};
 ghost use Prim.Native.Nat.{_<_, _^_};
-ghost use Rattle.standard.specs.Combination.{cases, denominatorOf};
+ghost use Rattle.standard.specs.Combination.{caseCount, denominatorOf};
 ghost use Rattle.envelope.specs.Range.{kindOf, effectOf, StationInRange, EffectsInRange, CapacitiesInRange};
 ghost use Rattle.envelope.specs.Envelope.{extremesOf, signedBy, patternOf, utilisedOf};
 ghost use Rattle.envelope.specs.Places.{Placed};
@@ -14,9 +14,9 @@ use naming::Sets;
 use standard::Capacities;
 use standard::Settings;
 
-// A governing number with its combination, whose sets are of 32 cases.
+// A governing number with its combination, whose sets are of the cases.
 fn extreme(value: i64, row: usize, sets: Sets) -> Extreme
-    requires { ⌜ (sets .acting < 2 ^ cases) × (sets .low < 2 ^ cases) ⌝ }
+    requires { ⌜ (sets .acting < 2 ^ caseCount) × (sets .low < 2 ^ caseCount) ⌝ }
     ensures { λ r. ⌜ (r .value ≡ value) × (r .row ≡ row) × (r .acting ≡ sets .acting) × (r .low ≡ sets .low) ⌝ }
 {
     let acting = sets.acting as u32;
@@ -75,10 +75,10 @@ fn peak_of(s: Settings, places: &[u64], effects: &[i16], p: Capacities) -> Peak
     requires { ⌜ Placed (now places) × EffectsInRange (now effects) × CapacitiesInRange p ⌝ }
     ensures { λ r. ⌜ PeakOf r s (now (places .entry)) (effectOf (now (effects .entry))) p ⌝ }
 {
-    let mut s0 = [0u64; 24];
-    let mut s1 = [0u64; 24];
-    let mut s2 = [0u64; 24];
-    let mut s3 = [0u64; 24];
+    let mut s0 = [0u64; sums::SUMS];
+    let mut s1 = [0u64; sums::SUMS];
+    let mut s2 = [0u64; sums::SUMS];
+    let mut s3 = [0u64; sums::SUMS];
     let w = pattern_weights(p, 0);
     sums::four_sums_of(&mut s0, &mut s1, &mut s2, &mut s3, places, effects, w);
     governing::highest(s, &s0, &s1, &s2, &s3)

@@ -8,7 +8,7 @@ use mathlib.Core.List.{List}
 use mathlib.Core.Path.{_≡_, refl}
 use lib.IntN.{ℤ, pos, _+ℤ_, _*ℤ_, natAbs}
 use Rattle.integers.proofs.Signs.{abs-add, abs-mul, abs-negated}
-use Rattle.standard.specs.Combination.{cases}
+use Rattle.standard.specs.Combination.{caseCount}
 use Rattle.envelope.specs.declared.Weights.{Weights}
 use Rattle.envelope.specs.Range.{effectOf, effectMost, EffectsInRange, WeightsInRange}
 use Rattle.envelope.specs.Directions.{turned, signsBy}
@@ -30,7 +30,7 @@ module _ (t : Bool) (p : ℕ → Bool) (d : ℕ → Directions) where
     fourth = no-sides t p (λ k. d k .fourth) i;
   }
 
-  pub four-skip : (k : ℕ) → k < cases → p k ≡ false → fourIn t p d (suc k) ≡ fourIn t p d k
+  pub four-skip : (k : ℕ) → k < caseCount → p k ≡ false → fourIn t p d (suc k) ≡ fourIn t p d k
   four-skip k l q = λ i. record {
     first = sides-skip t p (λ n. d n .first) k l q i;
     second = sides-skip t p (λ n. d n .second) k l q i;
@@ -47,7 +47,7 @@ module _ (t : Bool) (p : ℕ → Bool) (d : ℕ → Directions) where
   }
 
   -- for effects in range
-  pub four-room : ((k : ℕ) → DirectionsInRange (d k)) → (k : ℕ) → k < cases → FourRoom (fourIn t p d k) (d k)
+  pub four-room : ((k : ℕ) → DirectionsInRange (d k)) → (k : ℕ) → k < caseCount → FourRoom (fourIn t p d k) (d k)
   four-room small k l =
       record {
         first = sides-room t p (λ n. d n .first) (λ n. small n .first) k l;
@@ -56,13 +56,13 @@ module _ (t : Bool) (p : ℕ → Bool) (d : ℕ → Directions) where
         fourth = sides-room t p (λ n. d n .fourth) (λ n. small n .fourth) k l;
       }
 
-  pub four-in-range : ((k : ℕ) → DirectionsInRange (d k)) → FourInRange (fourIn t p d cases)
+  pub four-in-range : ((k : ℕ) → DirectionsInRange (d k)) → FourInRange (fourIn t p d caseCount)
   four-in-range small =
       record {
-        first = sides-in-range t p (λ n. d n .first) (λ n. small n .first) cases (omega arith);
-        second = sides-in-range t p (λ n. d n .second) (λ n. small n .second) cases (omega arith);
-        third = sides-in-range t p (λ n. d n .third) (λ n. small n .third) cases (omega arith);
-        fourth = sides-in-range t p (λ n. d n .fourth) (λ n. small n .fourth) cases (omega arith);
+        first = sides-in-range t p (λ n. d n .first) (λ n. small n .first) caseCount (omega arith);
+        second = sides-in-range t p (λ n. d n .second) (λ n. small n .second) caseCount (omega arith);
+        third = sides-in-range t p (λ n. d n .third) (λ n. small n .third) caseCount (omega arith);
+        fourth = sides-in-range t p (λ n. d n .fourth) (λ n. small n .fourth) caseCount (omega arith);
       }
 
 -- ---- the sizes

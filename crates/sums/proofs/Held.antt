@@ -8,7 +8,7 @@ use lib.IntN.{ℤ, pos, negℤ, _+ℤ_, natAbs}
 use Rattle.integers.specs.Sums.{when, sum, most, up, down}
 use Rattle.integers.proofs.Signs.{eq-in, add-parts, abs-parts, abs-negated, neg-up, neg-down}
 use Rattle.integers.proofs.Sums.{when-le, sum-most, sum-le-at, most-le}
-use Rattle.standard.specs.Combination.{cases}
+use Rattle.standard.specs.Combination.{caseCount}
 use Rattle.envelope.specs.Range.{effectMost}
 use Rattle.sums.specs.declared.Sides.{Sides}
 use Rattle.sums.specs.Sums.{partOf, joinedBy, heldBy, among, sidesBy, sidesIn, sidesWith, SidesInRange, SidesRoom}
@@ -74,7 +74,7 @@ module _ (t : Bool) (p : ℕ → Bool) (e : ℕ → ℤ) where
   held-joins : (g : ℕ → ℕ) (k : ℕ) → p k ≡ true → joinedBy t (heldBy t k (among p g)) (g k) ≡ heldBy t (suc k) (among p g)
   held-joins g k q = sym (held-more t k (among p g) ∙ ap (λ (b : Bool). joinedBy t (heldBy t k (among p g)) (when b (g k))) q)
 
-  pub sides-skip : (k : ℕ) → k < cases → p k ≡ false → sidesIn t p e (suc k) ≡ sidesIn t p e k
+  pub sides-skip : (k : ℕ) → k < caseCount → p k ≡ false → sidesIn t p e (suc k) ≡ sidesIn t p e k
   sides-skip k l q = λ i. sidesBy (held-skips (λ n. up (e n)) k q i) (held-skips (λ n. down (e n)) k q i)
 
   pub sides-join : (k : ℕ) → p k ≡ true → sidesWith t (sidesIn t p e k) (e k) ≡ sidesIn t p e (suc k)
@@ -92,7 +92,7 @@ module _ (t : Bool) (p : ℕ → Bool) (e : ℕ → ℤ) where
           sum-most n effectMost (among p (λ k. partOf s (e k))) (λ k l. omega (arith, when-le (p k) (partOf s (e k)), part-le s (e k), small k)),
         )
 
-    pub sides-in-range : (n : ℕ) → n ≤ cases → SidesInRange (sidesIn t p e n)
+    pub sides-in-range : (n : ℕ) → n ≤ caseCount → SidesInRange (sidesIn t p e n)
     sides-in-range n l =
         let d : ℕ = heldBy t n (among p (λ k. down (e k))) in
         record {
@@ -102,7 +102,7 @@ module _ (t : Bool) (p : ℕ → Bool) (e : ℕ → ℤ) where
           below-fits = omega (arith, abs-negated (pos d), held-most 1 n);
         }
 
-    pub sides-room : (k : ℕ) → k < cases → SidesRoom (sidesIn t p e k) (e k)
+    pub sides-room : (k : ℕ) → k < caseCount → SidesRoom (sidesIn t p e k) (e k)
     sides-room k l =
         record {
           range = sides-in-range k (omega arith);

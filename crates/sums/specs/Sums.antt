@@ -10,8 +10,8 @@ use Rattle.integers.specs.Sums.{when, sum, most, up, down}
 use Rattle.integers.specs.Sets.{has}
 use Rattle.standard.specs.declared.Class.{Class}
 use Rattle.standard.specs.declared.Class.the-variants.{Always, Subset, OneOf, Unknown}
-use Rattle.standard.specs.Kinds.{classOf, kinds}
-use Rattle.standard.specs.Combination.{cases}
+use Rattle.standard.specs.Kinds.{classOf, kindCount}
+use Rattle.standard.specs.Combination.{caseCount}
 use Rattle.envelope.specs.Range.{effectMost}
 use Rattle.sums.specs.declared.Sides.{Sides}
 
@@ -68,6 +68,10 @@ pub record SidesRoom (s : Sides) (x : ℤ) : Type 0 where
   pub above : natAbs (s .above) + natAbs x < 2 ^ 63
   pub below : natAbs (s .below) + natAbs x < 2 ^ 63
 
+-- two sums of each kind
+abbrev pub sumCount : ℕ
+sumCount = kindCount * 2
+
 -- of kind j on side t
 abbrev pub heldAt : List ℕ → ℕ → ℕ → ℕ
 heldAt sums j t = getD sums (j * 2 + t) 0
@@ -77,15 +81,15 @@ sidesPut sums j s = set (set sums (j * 2) (up (s .above))) (j * 2 + 1) (down (s 
 
 -- the sums of the kinds below m, from the sets of the cases of each kind
 pub record SumsOf (sums places : List ℕ) (e : ℕ → ℤ) (m : ℕ) : Type 0 where
-  pub long : length sums ≡ 24
-  pub held : (j t : ℕ) → 0 < j → j < m → t < 2 → heldAt sums j t ≡ heldOf j cases (among (has (getD places j 0)) (λ k. partOf t (e k)))
+  pub long : length sums ≡ sumCount
+  pub held : (j t : ℕ) → 0 < j → j < m → t < 2 → heldAt sums j t ≡ heldOf j caseCount (among (has (getD places j 0)) (λ k. partOf t (e k)))
 
 -- the same from the kinds of the cases
 pub record Summed (sums : List ℕ) (kind : ℕ → ℕ) (e : ℕ → ℤ) : Type 0 where
-  pub long : length sums ≡ 24
-  pub held : (j t : ℕ) → 0 < j → j < kinds → t < 2 → heldAt sums j t ≡ heldOf j cases (ofKind kind (λ k. partOf t (e k)) j)
+  pub long : length sums ≡ sumCount
+  pub held : (j t : ℕ) → 0 < j → j < kindCount → t < 2 → heldAt sums j t ≡ heldOf j caseCount (ofKind kind (λ k. partOf t (e k)) j)
 
--- sums of 32 weighed effects
+-- sums of the weighed effects of all cases
 pub record SumsInRange (sums : List ℕ) : Type 0 where
-  pub long : length sums ≡ 24
-  pub each : (j t : ℕ) → 0 < j → j < kinds → t < 2 → heldAt sums j t ≤ cases * effectMost
+  pub long : length sums ≡ sumCount
+  pub each : (j t : ℕ) → 0 < j → j < kindCount → t < 2 → heldAt sums j t ≤ caseCount * effectMost

@@ -3,14 +3,21 @@ ghost use Prim.Native.Nat.{ℕ, _+_, _*_, _<_, _≤_, _^_};
 ghost use lib.ListN.{length, getD};
 ghost use lib.IntN.{ℤ, pos, negℤ, _+ℤ_, _*ℤ_, natAbs};
 ghost use Rattle.integers.specs.Sets.{has};
-ghost use Rattle.standard.specs.Combination.{cases};
-ghost use Rattle.standard.specs.Kinds.{classOf, kinds};
-ghost use Rattle.envelope.specs.Range.{kindOf, effectOf, KindsInRange, EffectsInRange, WeightsInRange};
+ghost use Rattle.standard.specs.Combination.{caseCount};
+ghost use Rattle.standard.specs.Kinds.{classOf, kindCount};
+ghost use Rattle.envelope.specs.Range.{kindOf, effectOf, effectLimit, weightMost, KindsInRange, EffectsInRange, WeightsInRange};
 ghost use Rattle.envelope.specs.Places.{Places, PlacesInRange};
-ghost use Rattle.sums.specs.Sums.{alone, sidesWith, SidesRoom, SidesInRange, sidesIn, sidesPut, SumsOf};
+ghost use Rattle.sums.specs.Sums.{alone, sidesWith, SidesRoom, SidesInRange, sidesIn, sidesPut, sumCount, SumsOf};
 ghost use Rattle.sums.specs.Four.{directionsOf, directed, fourWith, FourRoom, FourInRange, fourIn, FourOf};
 use envelope::Weights;
+use standard::CASES;
 use standard::Class;
+use standard::KINDS;
+
+// Two sums of each kind: above zero, and below.
+pub const SUMS: usize = KINDS * 2;
+
+pub type Sums = [u64; SUMS];
 
 // What the effects of the cases of a kind make above zero and, with its sign, below.
 pub struct Sides {
@@ -35,14 +42,14 @@ pub struct FourSides {
 }
 
 // The cases of each kind as sets.
-pub fn places_of(kinds: &[u8]) -> [u64; 12]
+pub fn places_of(kinds: &[u8]) -> [u64; KINDS]
     requires { ⌜ KindsInRange (now kinds) ⌝ }
     ensures { λ r. ⌜ Places r (kindOf (now (kinds .entry))) ⌝ }
 {
-    let mut places = [0u64; 12];
+    let mut places = [0u64; KINDS];
     let mut bit: u64 = 1;
     let mut k: usize = 0;
-    while k < 32 {
+    while k < CASES {
         let kind = kinds[k] as usize;
         if 0 < kind {
             places[kind] += bit;
@@ -83,8 +90,8 @@ fn with_effect(compared: bool, s: Sides, x: i64) -> Sides
 
 // What the cases of a set make on a component.
 fn sides_of(compared: bool, set: u64, effects: &[i16], component: usize) -> Sides
-    requires { ⌜ (set < 2 ^ cases) × EffectsInRange (now effects) × (component < 3) ⌝ }
-    ensures { λ r. ⌜ r ≡ sidesIn compared (has set) (λ k. effectOf (now (effects .entry)) k component) cases ⌝ }
+    requires { ⌜ (set < 2 ^ caseCount) × EffectsInRange (now effects) × (component < 3) ⌝ }
+    ensures { λ r. ⌜ r ≡ sidesIn compared (has set) (λ k. effectOf (now (effects .entry)) k component) caseCount ⌝ }
 {
     let mut s = Sides { above: 0, below: 0 };
     let mut rest = set;
@@ -100,7 +107,7 @@ fn sides_of(compared: bool, set: u64, effects: &[i16], component: usize) -> Side
 
 // A kind's two places in the sums, which have no signs.
 fn put_sides(sums: &mut [u64], kind: usize, x: Sides)
-    requires { ⌜ (length (now sums) ≡ 24) × (kind < kinds) × SidesInRange x ⌝ }
+    requires { ⌜ (length (now sums) ≡ sumCount) × (kind < kindCount) × SidesInRange x ⌝ }
     ensures { λ _. ⌜ now (sums .exit) ≡ sidesPut (now (sums .entry)) kind x ⌝ }
 {
     let at = kind * 2;
@@ -109,13 +116,13 @@ fn put_sides(sums: &mut [u64], kind: usize, x: Sides)
 }
 
 // One pass over the cases: the sums of each kind on a component, for both signs.
-pub fn sums_of(places: &[u64], effects: &[i16], component: usize) -> [u64; 24]
+pub fn sums_of(places: &[u64], effects: &[i16], component: usize) -> Sums
     requires { ⌜ PlacesInRange (now places) × EffectsInRange (now effects) × (component < 3) ⌝ }
-    ensures { λ r. ⌜ SumsOf r (now (places .entry)) (λ k. effectOf (now (effects .entry)) k component) kinds ⌝ }
+    ensures { λ r. ⌜ SumsOf r (now (places .entry)) (λ k. effectOf (now (effects .entry)) k component) kindCount ⌝ }
 {
-    let mut sums = [0u64; 24];
+    let mut sums = [0u64; SUMS];
     let mut kind: usize = 1;
-    while kind < 12 {
+    while kind < KINDS {
         let x = sides_of(acts_alone(kind), places[kind], effects, component);
         put_sides(&mut sums, kind, x);
         kind += 1;
@@ -125,7 +132,7 @@ pub fn sums_of(places: &[u64], effects: &[i16], component: usize) -> [u64; 24]
 
 // A weighed effect.
 fn weighed_one(effects: &[i16], at: usize, w: i64) -> i64
-    requires { ⌜ (at < length (now effects)) × (natAbs (getD (now effects) at (pos 0)) ≤ 10000) × (natAbs w ≤ 100000000) ⌝ }
+    requires { ⌜ (at < length (now effects)) × (natAbs (getD (now effects) at (pos 0)) ≤ effectLimit) × (natAbs w ≤ weightMost) ⌝ }
     ensures { λ r. ⌜ r ≡ w *ℤ getD (now (effects .entry)) at (pos 0) ⌝ }
 {
     let x = integers::widen(effects[at]);
@@ -150,7 +157,7 @@ fn four_signs(a: i64, b: i64, c: i64) -> Directions
 
 // Those of case k.
 fn case_directions(effects: &[i16], k: usize, w: Weights) -> Directions
-    requires { ⌜ (k < 32) × EffectsInRange (now effects) × WeightsInRange w ⌝ }
+    requires { ⌜ (k < caseCount) × EffectsInRange (now effects) × WeightsInRange w ⌝ }
     ensures { λ r. ⌜ r ≡ directed w (effectOf (now (effects .entry))) k ⌝ }
 {
     let at = k * 3;
@@ -175,8 +182,8 @@ fn with_directions(compared: bool, f: FourSides, d: Directions) -> FourSides
 
 // What the cases of a set make in the four directions.
 fn four_sides_of(compared: bool, set: u64, effects: &[i16], w: Weights) -> FourSides
-    requires { ⌜ (set < 2 ^ cases) × EffectsInRange (now effects) × WeightsInRange w ⌝ }
-    ensures { λ r. ⌜ r ≡ fourIn compared (has set) (directed w (effectOf (now (effects .entry)))) cases ⌝ }
+    requires { ⌜ (set < 2 ^ caseCount) × EffectsInRange (now effects) × WeightsInRange w ⌝ }
+    ensures { λ r. ⌜ r ≡ fourIn compared (has set) (directed w (effectOf (now (effects .entry)))) caseCount ⌝ }
 {
     let zero = Sides { above: 0, below: 0 };
     let mut f = FourSides {
@@ -204,7 +211,7 @@ fn put_four(
     kind: usize,
     f: FourSides,
 )
-    requires { ⌜ (length (now s0) ≡ 24) × (length (now s1) ≡ 24) × (length (now s2) ≡ 24) × (length (now s3) ≡ 24) × (kind < kinds) × FourInRange f ⌝ }
+    requires { ⌜ (length (now s0) ≡ sumCount) × (length (now s1) ≡ sumCount) × (length (now s2) ≡ sumCount) × (length (now s3) ≡ sumCount) × (kind < kindCount) × FourInRange f ⌝ }
     ensures { λ _. ⌜ (now (s0 .exit) ≡ sidesPut (now (s0 .entry)) kind (f .first)) × (now (s1 .exit) ≡ sidesPut (now (s1 .entry)) kind (f .second)) × (now (s2 .exit) ≡ sidesPut (now (s2 .entry)) kind (f .third)) × (now (s3 .exit) ≡ sidesPut (now (s3 .entry)) kind (f .fourth)) ⌝ }
 {
     put_sides(s0, kind, f.first);
@@ -223,11 +230,11 @@ pub fn four_sums_of(
     effects: &[i16],
     w: Weights,
 )
-    requires { ⌜ (length (now s0) ≡ 24) × (length (now s1) ≡ 24) × (length (now s2) ≡ 24) × (length (now s3) ≡ 24) × PlacesInRange (now places) × EffectsInRange (now effects) × WeightsInRange w ⌝ }
-    ensures { λ _. ⌜ FourOf (now (s0 .exit)) (now (s1 .exit)) (now (s2 .exit)) (now (s3 .exit)) (now (places .entry)) (directed w (effectOf (now (effects .entry)))) kinds ⌝ }
+    requires { ⌜ (length (now s0) ≡ sumCount) × (length (now s1) ≡ sumCount) × (length (now s2) ≡ sumCount) × (length (now s3) ≡ sumCount) × PlacesInRange (now places) × EffectsInRange (now effects) × WeightsInRange w ⌝ }
+    ensures { λ _. ⌜ FourOf (now (s0 .exit)) (now (s1 .exit)) (now (s2 .exit)) (now (s3 .exit)) (now (places .entry)) (directed w (effectOf (now (effects .entry)))) kindCount ⌝ }
 {
     let mut kind: usize = 1;
-    while kind < 12 {
+    while kind < KINDS {
         let f = four_sides_of(acts_alone(kind), places[kind], effects, w);
         put_four(s0, s1, s2, s3, kind, f);
         kind += 1;

@@ -15,9 +15,9 @@ use Rattle.integers.proofs.Sums.{eqb-cases, sum-same, sum-mono, sum-only, sum-s
 use Rattle.standard.specs.declared.Settings.{Settings}
 use Rattle.standard.specs.declared.Class.{Class}
 use Rattle.standard.specs.declared.Class.the-variants.{Always, Subset, OneOf, Unknown}
-use Rattle.standard.specs.Kinds.{classOf, kinds, groups}
+use Rattle.standard.specs.Kinds.{classOf, kindCount, groupCount}
 use Rattle.standard.specs.Rows.{factorOf}
-use Rattle.standard.specs.Combination.{cases}
+use Rattle.standard.specs.Combination.{caseCount}
 use Rattle.optimum.specs.Row.{greatestBy, leastBy, groupBy, lowerOf, greatestOf, leastOf, groupOf, rowMaximum, worthOf}
 use Rattle.envelope.specs.Range.{effectMost}
 use Rattle.sums.specs.Sums.{partOf, ofKind, alone, heldBy, heldOf, heldAt, Summed}
@@ -80,7 +80,7 @@ alone-none Subset f e = absurd (false≢true e)
 alone-none (OneOf g) f e = (refl, refl)
 alone-none Unknown f e = absurd (false≢true e)
 
-groupless : (q : Class) → alone q ≡ false → groupBy q ≡ groups
+groupless : (q : Class) → alone q ≡ false → groupBy q ≡ groupCount
 groupless Always e = refl
 groupless Subset e = refl
 groupless (OneOf g) e = absurd (false≢true (sym e))
@@ -105,11 +105,11 @@ module _ (s : Settings) (row : ℕ) where
 
 -- u holds the parts p of the cases by kind
 Holds : ℕ → (kind p u : ℕ → ℕ) → Type 0
-Holds n kind p u = (j : ℕ) → 0 < j → j < kinds → u j ≡ heldOf j n (ofKind kind p j)
+Holds n kind p u = (j : ℕ) → 0 < j → j < kindCount → u j ≡ heldOf j n (ofKind kind p j)
 
 module _ (n : ℕ) (kind p u : ℕ → ℕ) (h : Holds n kind p u) where
   -- a weight that the kinds of groups do not have finds sums
-  weighs : (w : ℕ → ℕ) → w 0 ≡ 0 → ((j : ℕ) → alone (classOf j) ≡ true → w j ≡ 0) → (j : ℕ) → j < kinds → w j * u j ≡ w j * sum n (ofKind kind p j)
+  weighs : (w : ℕ → ℕ) → w 0 ≡ 0 → ((j : ℕ) → alone (classOf j) ≡ true → w j ≡ 0) → (j : ℕ) → j < kindCount → w j * u j ≡ w j * sum n (ofKind kind p j)
   unfolding heldBy Holds
   weighs w none late zero l = rw none (omega arith)
   weighs w none late (suc j) l = go (alone (classOf (suc j))) refl
@@ -119,46 +119,46 @@ module _ (n : ℕ) (kind p u : ℕ → ℕ) (h : Holds n kind p u) where
       go false e = ap (λ (x : ℕ). w (suc j) * x) (h (suc j) (omega arith) l ∙ rw e)
 
   -- and a group finds maxima
-  leads : (f : ℕ → ℕ) (g : ℕ) → g < groups → (j : ℕ) → j < kinds →
+  leads : (f : ℕ → ℕ) (g : ℕ) → g < groupCount → (j : ℕ) → j < kindCount →
       when (eqb (groupOf j) g) (f j * u j) ≡ when (eqb (groupOf j) g) (f j * most n (ofKind kind p j))
   unfolding heldBy Holds groupOf classOf
-  leads f g k zero l = rw (ne-eqb groups g (λ q. omega arith))
+  leads f g k zero l = rw (ne-eqb groupCount g (λ q. omega arith))
   leads f g k (suc j) l = go (alone (classOf (suc j))) refl
     where
       go : (t : Bool) → alone (classOf (suc j)) ≡ t → when (eqb (groupOf (suc j)) g) (f (suc j) * u (suc j)) ≡ when (eqb (groupOf (suc j)) g) (f (suc j) * most n (ofKind kind p (suc j)))
       go true e = ap (λ (x : ℕ). when (eqb (groupOf (suc j)) g) (f (suc j) * x)) (h (suc j) (omega arith) l ∙ rw e)
-      go false e = rw (groupless (classOf (suc j)) e, ne-eqb groups g (λ q. omega arith))
+      go false e = rw (groupless (classOf (suc j)) e, ne-eqb groupCount g (λ q. omega arith))
 
 -- the value of a row from what is held above zero and below
-module _ (kind : ℕ → ℕ) (e : ℕ → ℤ) (below : (k : ℕ) → kind k < kinds) (u d : ℕ → ℕ)
-    (hu : Holds cases kind (λ k. up (e k)) u) (hd : Holds cases kind (λ k. down (e k)) d) where
+module _ (kind : ℕ → ℕ) (e : ℕ → ℤ) (below : (k : ℕ) → kind k < kindCount) (u d : ℕ → ℕ)
+    (hu : Holds caseCount kind (λ k. up (e k)) u) (hd : Holds caseCount kind (λ k. down (e k)) d) where
   held-value : (s : Settings) (row : ℕ) → valueOf s row (termsBy u d) ≡ rowMaximum s row kind e
   unfolding rowMaximum
   held-value s row = by-terms s row u d ∙ (λ i. pos (gain i) -ℤ pos (loss i))
     where
-      loss : lossBy s row d ≡ sum cases (λ k. leastOf s row (kind k) * down (e k))
+      loss : lossBy s row d ≡ sum caseCount (λ k. leastOf s row (kind k) * down (e k))
       loss =
-          sum-same kinds (λ j. leastOf s row j * d j) (λ j. leastOf s row j * sum cases (ofKind kind (λ k. down (e k)) j))
-          (weighs cases kind (λ k. down (e k)) d hd (leastOf s row) (no-loss s row) (alone-loss s row))
-          ∙ sum-of-kinds cases kinds kind (λ k. down (e k)) below (leastOf s row)
+          sum-same kindCount (λ j. leastOf s row j * d j) (λ j. leastOf s row j * sum caseCount (ofKind kind (λ k. down (e k)) j))
+          (weighs caseCount kind (λ k. down (e k)) d hd (leastOf s row) (no-loss s row) (alone-loss s row))
+          ∙ sum-of-kinds caseCount kindCount kind (λ k. down (e k)) below (leastOf s row)
 
-      own : sum kinds (λ j. greatestOf s row j * u j) ≡ sum cases (λ k. greatestOf s row (kind k) * up (e k))
+      own : sum kindCount (λ j. greatestOf s row j * u j) ≡ sum caseCount (λ k. greatestOf s row (kind k) * up (e k))
       own =
-          sum-same kinds (λ j. greatestOf s row j * u j) (λ j. greatestOf s row j * sum cases (ofKind kind (λ k. up (e k)) j))
-          (weighs cases kind (λ k. up (e k)) u hu (greatestOf s row) (no-gain s row) (alone-gain s row))
-          ∙ sum-of-kinds cases kinds kind (λ k. up (e k)) below (greatestOf s row)
+          sum-same kindCount (λ j. greatestOf s row j * u j) (λ j. greatestOf s row j * sum caseCount (ofKind kind (λ k. up (e k)) j))
+          (weighs caseCount kind (λ k. up (e k)) u hu (greatestOf s row) (no-gain s row) (alone-gain s row))
+          ∙ sum-of-kinds caseCount kindCount kind (λ k. up (e k)) below (greatestOf s row)
 
-      led : (g : ℕ) → g < groups → most kinds (byGroup s row u g) ≡ most cases (worthOf s row kind e g)
+      led : (g : ℕ) → g < groupCount → most kindCount (byGroup s row u g) ≡ most caseCount (worthOf s row kind e g)
       led g l =
-          most-same kinds (byGroup s row u g) (λ j. when (eqb (groupOf j) g) (factorOf s row j * most cases (ofKind kind (λ k. up (e k)) j)))
-          (leads cases kind (λ k. up (e k)) u hu (factorOf s row) g l)
-          ∙ most-of-kinds cases kinds kind (λ k. up (e k)) below groupOf (factorOf s row) g
+          most-same kindCount (byGroup s row u g) (λ j. when (eqb (groupOf j) g) (factorOf s row j * most caseCount (ofKind kind (λ k. up (e k)) j)))
+          (leads caseCount kind (λ k. up (e k)) u hu (factorOf s row) g l)
+          ∙ most-of-kinds caseCount kindCount kind (λ k. up (e k)) below groupOf (factorOf s row) g
 
-      gain : gainBy s row u ≡ sum cases (λ k. greatestOf s row (kind k) * up (e k)) + sum groups (λ g. most cases (worthOf s row kind e g))
-      gain = λ i. own i + sum-same groups (λ g. most kinds (byGroup s row u g)) (λ g. most cases (worthOf s row kind e g)) led i
+      gain : gainBy s row u ≡ sum caseCount (λ k. greatestOf s row (kind k) * up (e k)) + sum groupCount (λ g. most caseCount (worthOf s row kind e g))
+      gain = λ i. own i + sum-same groupCount (λ g. most kindCount (byGroup s row u g)) (λ g. most caseCount (worthOf s row kind e g)) led i
 
-module _ (sums : List ℕ) (kind : ℕ → ℕ) (e : ℕ → ℤ) (below : (k : ℕ) → kind k < kinds) (h : Summed sums kind e) where
-  holds : (t : ℕ) → t < 2 → Holds cases kind (λ k. partOf t (e k)) (λ j. heldAt sums j t)
+module _ (sums : List ℕ) (kind : ℕ → ℕ) (e : ℕ → ℤ) (below : (k : ℕ) → kind k < kindCount) (h : Summed sums kind e) where
+  holds : (t : ℕ) → t < 2 → Holds caseCount kind (λ k. partOf t (e k)) (λ j. heldAt sums j t)
   unfolding Holds
   holds t m = λ j p l. h .held j t p l m
 
@@ -169,24 +169,24 @@ module _ (sums : List ℕ) (kind : ℕ → ℕ) (e : ℕ → ℤ) (below : (k : 
   pub negated-value-is : (s : Settings) (row : ℕ) → valueOf s row (termsOf sums 1 0) ≡ rowMaximum s row kind (λ k. negℤ (e k))
   negated-value-is s row =
       held-value kind (λ k. negℤ (e k)) below (λ j. heldAt sums j 1) (λ j. heldAt sums j 0)
-      (subst (λ (p : ℕ → ℕ). Holds cases kind p (λ j. heldAt sums j 1)) (λ i k. sym (neg-up (e k)) i) (holds 1 (omega arith)))
-      (subst (λ (p : ℕ → ℕ). Holds cases kind p (λ j. heldAt sums j 0)) (λ i k. sym (neg-down (e k)) i) (holds 0 (omega arith))) s row
+      (subst (λ (p : ℕ → ℕ). Holds caseCount kind p (λ j. heldAt sums j 1)) (λ i k. sym (neg-up (e k)) i) (holds 1 (omega arith)))
+      (subst (λ (p : ℕ → ℕ). Holds caseCount kind p (λ j. heldAt sums j 0)) (λ i k. sym (neg-down (e k)) i) (holds 0 (omega arith))) s row
 
 -- ---- the sizes of the terms
-total : (H : ℕ → ℕ) (m : ℕ) → sum kinds H ≤ m → H 1 + H 2 + H 3 + H 4 + H 5 + H 6 + H 7 + H 8 + H 9 + H 10 + H 11 ≤ m
+total : (H : ℕ → ℕ) (m : ℕ) → sum kindCount H ≤ m → H 1 + H 2 + H 3 + H 4 + H 5 + H 6 + H 7 + H 8 + H 9 + H 10 + H 11 ≤ m
 unfolding sum
 total H m h = omega arith
 
 size-of-difference : (a b : ℕ) → natAbs (pos a +ℤ negℤ (pos b)) ≤ a + b
 size-of-difference a b = omega (arith, abs-add (pos a) (negℤ (pos b)), abs-negated (pos b))
 
-module _ (n : ℕ) (kind p : ℕ → ℕ) (below : (k : ℕ) → kind k < kinds) (small : (k : ℕ) → p k ≤ effectMost) where
-  all-most : sum kinds (λ j. heldOf j n (ofKind kind p j)) ≤ n * effectMost
+module _ (n : ℕ) (kind p : ℕ → ℕ) (below : (k : ℕ) → kind k < kindCount) (small : (k : ℕ) → p k ≤ effectMost) where
+  all-most : sum kindCount (λ j. heldOf j n (ofKind kind p j)) ≤ n * effectMost
   all-most =
       omega (
         arith,
-        sum-mono kinds (λ j. heldOf j n (ofKind kind p j)) (λ j. 1 * sum n (ofKind kind p j)) (λ j l. omega (arith, held-le (alone (classOf j)) n (ofKind kind p j))),
-        sum-of-kinds n kinds kind p below (λ j. 1),
+        sum-mono kindCount (λ j. heldOf j n (ofKind kind p j)) (λ j. 1 * sum n (ofKind kind p j)) (λ j l. omega (arith, held-le (alone (classOf j)) n (ofKind kind p j))),
+        sum-of-kinds n kindCount kind p below (λ j. 1),
         sum-most n effectMost (λ k. 1 * p k) (λ k l. omega (arith, small k)),
       )
 
@@ -219,10 +219,10 @@ small-terms u d m hu hd l =
       snow-up = refl;
     }
 
-pub terms-in-range : (sums : List ℕ) (kind : ℕ → ℕ) (e : ℕ → ℤ) → ((k : ℕ) → kind k < kinds) → Summed sums kind e → ((k : ℕ) → natAbs (e k) ≤ effectMost) →
+pub terms-in-range : (sums : List ℕ) (kind : ℕ → ℕ) (e : ℕ → ℤ) → ((k : ℕ) → kind k < kindCount) → Summed sums kind e → ((k : ℕ) → natAbs (e k) ≤ effectMost) →
     (over under : ℕ) → over < 2 → under < 2 → TermsInRange (termsOf sums over under)
 terms-in-range sums kind e below h small over under a b =
-    small-terms (λ j. heldAt sums j over) (λ j. heldAt sums j under) (cases * effectMost) (side over a) (side under b) (omega arith)
+    small-terms (λ j. heldAt sums j over) (λ j. heldAt sums j under) (caseCount * effectMost) (side over a) (side under b) (omega arith)
   where
-    side : (t : ℕ) → t < 2 → let u : ℕ → ℕ = λ j. heldAt sums j t in u 1 + u 2 + u 3 + u 4 + u 5 + u 6 + u 7 + u 8 + u 9 + u 10 + u 11 ≤ cases * effectMost
-    side t m = held-total cases kind (λ k. partOf t (e k)) below (λ k. omega (arith, part-le t (e k), small k)) (λ j. heldAt sums j t) (holds sums kind e below h t m)
+    side : (t : ℕ) → t < 2 → let u : ℕ → ℕ = λ j. heldAt sums j t in u 1 + u 2 + u 3 + u 4 + u 5 + u 6 + u 7 + u 8 + u 9 + u 10 + u 11 ≤ caseCount * effectMost
+    side t m = held-total caseCount kind (λ k. partOf t (e k)) below (λ k. omega (arith, part-le t (e k), small k)) (λ j. heldAt sums j t) (holds sums kind e below h t m)

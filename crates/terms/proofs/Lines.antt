@@ -10,7 +10,7 @@ use Rattle.integers.specs.Sums.{when, sum, most, up, down}
 use Rattle.integers.proofs.Signs.{eq-in, add-parts, neg-up, neg-down, mul-up, mul-down}
 use Rattle.integers.proofs.Sums.{ltb-cases}
 use Rattle.standard.specs.declared.Settings.{Settings}
-use Rattle.standard.specs.Kinds.{classOf, kinds, groups}
+use Rattle.standard.specs.Kinds.{classOf, kindCount, groupCount}
 use Rattle.standard.specs.Rows.{factorOf}
 use Rattle.optimum.specs.Row.{lowerOf, greatestOf, leastOf, groupOf}
 use Rattle.terms.specs.Value.{termsBy, ownOf, valueOf}
@@ -20,10 +20,10 @@ abbrev pub byGroup : Settings → ℕ → (ℕ → ℕ) → ℕ → ℕ → ℕ
 byGroup s row u g j = when (eqb (groupOf j) g) (factorOf s row j * u j)
 
 abbrev pub gainBy : Settings → ℕ → (ℕ → ℕ) → ℕ
-gainBy s row u = sum kinds (λ j. greatestOf s row j * u j) + sum groups (λ g. most kinds (byGroup s row u g))
+gainBy s row u = sum kindCount (λ j. greatestOf s row j * u j) + sum groupCount (λ g. most kindCount (byGroup s row u g))
 
 abbrev pub lossBy : Settings → ℕ → (ℕ → ℕ) → ℕ
-lossBy s row d = sum kinds (λ j. leastOf s row j * d j)
+lossBy s row d = sum kindCount (λ j. leastOf s row j * d j)
 
 -- z is g less l
 Is : ℤ → ℕ → ℕ → Type 0
@@ -89,7 +89,7 @@ module _ (s : Settings) (row : ℕ) (u d : ℕ → ℕ) where
   unfolding sum leastOf lowerOf classOf
   loss-is = omega arith
 
-  own-is : sum kinds (λ j. greatestOf s row j * u j) ≡ f 1 * u 1 + f 2 * u 2 + f 3 * u 3 + f 4 * u 4 + f 5 * u 5
+  own-is : sum kindCount (λ j. greatestOf s row j * u j) ≡ f 1 * u 1 + f 2 * u 2 + f 3 * u 3 + f 4 * u 4 + f 5 * u 5
   unfolding sum greatestOf classOf
   own-is = omega arith
 
@@ -97,24 +97,24 @@ module _ (s : Settings) (row : ℕ) (u d : ℕ → ℕ) where
   unfolding most groupOf classOf
   roof-first = omega arith
 
-  roof-is : most kinds (byGroup s row u 0) ≡ max (max (f 6 * u 6) (f 7 * u 7)) (f 8 * u 8)
+  roof-is : most kindCount (byGroup s row u 0) ≡ max (max (f 6 * u 6) (f 7 * u 7)) (f 8 * u 8)
   unfolding most groupOf classOf
   roof-is = amid (most 6 (byGroup s row u 0)) (f 6 * u 6) (f 7 * u 7) (f 8 * u 8) roof-first
 
-  wind-is : most kinds (byGroup s row u 1) ≡ f 9 * u 9
+  wind-is : most kindCount (byGroup s row u 1) ≡ f 9 * u 9
   unfolding most groupOf classOf
   wind-is = omega arith
 
-  quake-is : most kinds (byGroup s row u 2) ≡ f 10 * u 10
+  quake-is : most kindCount (byGroup s row u 2) ≡ f 10 * u 10
   unfolding most groupOf classOf
   quake-is = omega arith
 
-  flood-is : most kinds (byGroup s row u 3) ≡ f 11 * u 11
+  flood-is : most kindCount (byGroup s row u 3) ≡ f 11 * u 11
   unfolding most groupOf classOf
   flood-is = omega arith
 
-  groups-are : sum groups (λ g. most kinds (byGroup s row u g))
-      ≡ most kinds (byGroup s row u 0) + most kinds (byGroup s row u 1) + most kinds (byGroup s row u 2) + most kinds (byGroup s row u 3)
+  groups-are : sum groupCount (λ g. most kindCount (byGroup s row u g))
+      ≡ most kindCount (byGroup s row u 0) + most kindCount (byGroup s row u 1) + most kindCount (byGroup s row u 2) + most kindCount (byGroup s row u 3)
   unfolding sum
   groups-are = omega arith
 

@@ -1,8 +1,8 @@
 ghost use mathlib.Core.Path.{_≡_};
 ghost use Prim.Native.Nat.{ℕ, _+_, _*_, _<_, _≤_, _^_, min};
 ghost use lib.IntN.{ℤ, pos, negℤ, _+ℤ_, _*ℤ_, natAbs};
-ghost use Rattle.standard.specs.Kinds.{kinds};
-ghost use Rattle.standard.specs.Rows.{rows, factorOf};
+ghost use Rattle.standard.specs.Kinds.{kindCount};
+ghost use Rattle.standard.specs.Rows.{rowCount, factorOf};
 ghost use Rattle.standard.specs.Columns.{rowTable};
 ghost use Rattle.optimum.specs.Row.{lowerOf};
 ghost use Rattle.sums.specs.Sums.{heldAt, SumsInRange};
@@ -27,7 +27,7 @@ pub struct Terms {
 
 // What the sums hold of a kind on a side.
 fn held(sums: &[u64], kind: usize, side: usize) -> i64
-    requires { ⌜ SumsInRange (now sums) × (0 < kind) × (kind < kinds) × (side < 2) ⌝ }
+    requires { ⌜ SumsInRange (now sums) × (0 < kind) × (kind < kindCount) × (side < 2) ⌝ }
     ensures { λ r. ⌜ r ≡ pos (heldAt (now (sums .entry)) kind side) ⌝ }
 {
     let at = kind * 2 + side;
@@ -36,7 +36,7 @@ fn held(sums: &[u64], kind: usize, side: usize) -> i64
 
 // The one side less the other.
 fn excess(sums: &[u64], kind: usize, over: usize, under: usize) -> i64
-    requires { ⌜ SumsInRange (now sums) × (0 < kind) × (kind < kinds) × (over < 2) × (under < 2) ⌝ }
+    requires { ⌜ SumsInRange (now sums) × (0 < kind) × (kind < kindCount) × (over < 2) × (under < 2) ⌝ }
     ensures { λ r. ⌜ r ≡ pos (heldAt (now (sums .entry)) kind over) +ℤ negℤ (pos (heldAt (now (sums .entry)) kind under)) ⌝ }
 {
     let plus = held(sums, kind, over);
@@ -65,7 +65,7 @@ pub fn terms_of(sums: &[u64], over: usize, under: usize) -> Terms
 
 // A term at the factor of a kind, added to what there is.
 fn with_term(total: i64, table: &RowTable, s: Settings, row: usize, kind: usize, x: i64) -> i64
-    requires { ⌜ (row < rows) × (0 < kind) × (kind < kinds) × (now table ≡ rowTable) × (natAbs total + factorMost * natAbs x < 2 ^ 63) ⌝ }
+    requires { ⌜ (row < rowCount) × (0 < kind) × (kind < kindCount) × (now table ≡ rowTable) × (natAbs total + factorMost * natAbs x < 2 ^ 63) ⌝ }
     ensures { λ r. ⌜ Gained r total (factorOf s row kind) x ⌝ }
 {
     let f = standard::factor(table, s, row, kind);
@@ -80,7 +80,7 @@ fn lower(a: u16, b: u16) -> u16
 
 // The same at the lower factor of Hp.
 fn with_lowered(total: i64, table: &RowTable, s: Settings, row: usize, x: i64) -> i64
-    requires { ⌜ (row < rows) × (now table ≡ rowTable) × (natAbs total + factorMost * natAbs x < 2 ^ 63) ⌝ }
+    requires { ⌜ (row < rowCount) × (now table ≡ rowTable) × (natAbs total + factorMost * natAbs x < 2 ^ 63) ⌝ }
     ensures { λ r. ⌜ Gained r total (lowerOf s row 3) x ⌝ }
 {
     let f = standard::factor(table, s, row, 3);
@@ -90,7 +90,7 @@ fn with_lowered(total: i64, table: &RowTable, s: Settings, row: usize, x: i64) -
 
 // What the cases that act together give in a row.
 fn own_value(table: &RowTable, s: Settings, row: usize, t: Terms) -> i64
-    requires { ⌜ (row < rows) × (now table ≡ rowTable) × TermsInRange t ⌝ }
+    requires { ⌜ (row < rowCount) × (now table ≡ rowTable) × TermsInRange t ⌝ }
     ensures { λ r. ⌜ (r ≡ ownOf s row t) × (natAbs r ≤ factorMost * (natAbs (t .dead) + natAbs (t .fluid) + natAbs (t .earth) + natAbs (t .lowered) + natAbs (t .live))) ⌝ }
 {
     let dead = with_term(0, table, s, row, 1, t.dead);
@@ -102,7 +102,7 @@ fn own_value(table: &RowTable, s: Settings, row: usize, t: Terms) -> i64
 
 // The value of a row: the line as the standard writes it.
 pub fn value_of(table: &RowTable, s: Settings, row: usize, t: Terms) -> i64
-    requires { ⌜ (row < rows) × (now table ≡ rowTable) × TermsInRange t ⌝ }
+    requires { ⌜ (row < rowCount) × (now table ≡ rowTable) × TermsInRange t ⌝ }
     ensures { λ r. ⌜ r ≡ valueOf s row t ⌝ }
 {
     let own = own_value(table, s, row, t);

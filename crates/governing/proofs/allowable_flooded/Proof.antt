@@ -4,10 +4,10 @@ use Prim.Native.Nat.{ℕ}
 use native.Mathlib.Omega.{arith}
 use mathlib.Core.Path.{_≡_, refl, sym, ap, _∙_}
 use lib.IntN.{ℤ}
-use Rattle.standard.specs.Rows.{span}
+use Rattle.standard.specs.Rows.{rowsTo, byZone}
 use Rattle.terms.specs.Value.{valueOf}
 use Rattle.envelope.specs.declared.Best.{Best}
-use Rattle.envelope.specs.Envelope.{bestAt, bestIn, byZone}
+use Rattle.envelope.specs.Envelope.{bestAt, bestAmong}
 use Rattle.envelope.proofs.Spans.{no-row, row-more, first-zone, second-zone, no-zone}
 use borrow.Author.Needs.{needs}
 use Rattle.governing.proofs.allowable_flooded.Statement.{statement}
@@ -34,7 +34,7 @@ returns c =
     let a = i .before .before .args in
     let v : ℕ → ℤ = λ row. valueOf (a .s) row (a .t) in
     row-more v (a .b) 31 4 (row-more v (a .b) 31 3 (row-more v (a .b) 31 2 (row-more v (a .b) 31 1 (row-more v (a .b) 31 0 (no-row v (a .b) 31 refl) (c .before .before .before .before .with-row .ensures)) (c .before .before .before .with-row2 .ensures)) (c .before .before .with-row3 .ensures)) (c .before .with-row4 .ensures)) (c .with-row5 .ensures)
-    ∙ first-zone (a .s) v (a .b) (span 31 36) (span 36 41) (i .if1 .taken)
+    ∙ first-zone (a .s) v (a .b) (rowsTo 31 35) (rowsTo 36 40) (i .if1 .taken)
 
 with-row-requires-6 : tie.Need-with-row-requires-6
 with-row-requires-6 c κs = search needs
@@ -57,12 +57,12 @@ returns-2 c =
     let a = i .before .before .before .before .args in
     let v : ℕ → ℤ = λ row. valueOf (a .s) row (a .t) in
     row-more v (a .b) 36 4 (row-more v (a .b) 36 3 (row-more v (a .b) 36 2 (row-more v (a .b) 36 1 (row-more v (a .b) 36 0 (no-row v (a .b) 36 refl) (c .before .before .before .before .with-row6 .ensures)) (c .before .before .before .with-row7 .ensures)) (c .before .before .with-row8 .ensures)) (c .before .with-row9 .ensures)) (c .with-row10 .ensures)
-    ∙ second-zone (a .s) v (a .b) (span 31 36) (span 36 41) (i .if2 .taken)
+    ∙ second-zone (a .s) v (a .b) (rowsTo 31 35) (rowsTo 36 40) (i .if2 .taken)
 
 returns-3 : tie.Need-returns-3
 returns-3 c =
     let a = c .before .before .before .before .args in
-    no-zone (a .s) (λ row. valueOf (a .s) row (a .t)) (a .b) (span 31 36) (span 36 41) (c .before .before .if1 .left) (c .if2 .left)
+    no-zone (a .s) (λ row. valueOf (a .s) row (a .t)) (a .b) (rowsTo 31 35) (rowsTo 36 40) (c .before .before .if1 .left) (c .if2 .left)
 
 pub allowable-flooded-spec : {M : Type 1} → statement M
 allowable-flooded-spec =

@@ -4,10 +4,10 @@ use Prim.Native.Nat.{ℕ}
 use native.Mathlib.Omega.{arith}
 use mathlib.Core.Path.{_≡_, refl, sym, ap, _∙_}
 use lib.IntN.{ℤ}
-use Rattle.standard.specs.Rows.{span}
+use Rattle.standard.specs.Rows.{rowsTo, byZone}
 use Rattle.terms.specs.Value.{valueOf}
 use Rattle.envelope.specs.declared.Best.{Best}
-use Rattle.envelope.specs.Envelope.{bestAt, bestIn, byZone}
+use Rattle.envelope.specs.Envelope.{bestAt, bestAmong}
 use Rattle.envelope.specs.Envelope.{bestOf}
 use Rattle.envelope.proofs.Spans.{strength-rows, allowable-rows, no-rows}
 use borrow.Author.Needs.{needs}
@@ -29,7 +29,7 @@ returns c =
     let i = t .before .before in
     let a = i .before .before .before .args in
     let v : ℕ → ℤ = λ row. valueOf (a .s) row (a .t) in
-    c .strength-flooded .ensures ∙ ap (λ (b : Best). bestIn v b (byZone (a .s) (span 9 11) (span 11 13))) (t .strength .ensures) ∙ sym (strength-rows (a .s) v (i .if1 .taken))
+    c .strength-flooded .ensures ∙ ap (λ (b : Best). bestAmong v b (byZone (a .s) (rowsTo 9 10) (rowsTo 11 12))) (t .strength .ensures) ∙ sym (strength-rows (a .s) v (i .if1 .taken))
 
 allowable-requires : tie.Need-allowable-requires
 allowable-requires c κs = search needs
@@ -43,7 +43,7 @@ returns-2 c =
     let i = t .before .before in
     let a = i .before .before .before .before .before .args in
     let v : ℕ → ℤ = λ row. valueOf (a .s) row (a .t) in
-    c .allowable-flooded .ensures ∙ ap (λ (b : Best). bestIn v b (byZone (a .s) (span 31 36) (span 36 41))) (t .allowable .ensures) ∙ sym (allowable-rows (a .s) v (i .if2 .taken))
+    c .allowable-flooded .ensures ∙ ap (λ (b : Best). bestAmong v b (byZone (a .s) (rowsTo 31 35) (rowsTo 36 40))) (t .allowable .ensures) ∙ sym (allowable-rows (a .s) v (i .if2 .taken))
 
 first-row-requires : tie.Need-first-row-requires
 first-row-requires c κs = search needs

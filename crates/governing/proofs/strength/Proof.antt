@@ -4,10 +4,10 @@ use Prim.Native.Nat.{ℕ}
 use native.Mathlib.Omega.{arith}
 use mathlib.Core.Path.{_≡_, refl, sym, ap, _∙_}
 use lib.IntN.{ℤ}
-use Rattle.standard.specs.Rows.{span}
+use Rattle.standard.specs.Rows.{rowsTo, byZone}
 use Rattle.terms.specs.Value.{valueOf}
 use Rattle.envelope.specs.declared.Best.{Best}
-use Rattle.envelope.specs.Envelope.{bestAt, bestIn, byZone}
+use Rattle.envelope.specs.Envelope.{bestAt, bestAmong}
 use Rattle.envelope.proofs.Spans.{no-row, row-more}
 use borrow.Author.Needs.{needs}
 use Rattle.governing.proofs.strength.Statement.{statement}

@@ -12,8 +12,8 @@ use lib.Dec.{eqb, ltb, ltb→lt}
 use lib.ListN.{getD}
 use lib.Seq.{getD-set-other}
 use Rattle.standard.specs.declared.Settings.{Settings}
-use Rattle.standard.specs.Kinds.{kinds}
-use Rattle.standard.specs.Rows.{Line, lines, blank, rows, columns, liveFactor, factorOf}
+use Rattle.standard.specs.Kinds.{kindCount}
+use Rattle.standard.specs.Rows.{Line, lines, blank, rowCount, columns, liveFactor, factorOf}
 use Rattle.standard.specs.Columns.{entries, rowTable, kindColumns, columnOf}
 use Rattle.standard.proofs.Table.{at, same-at, all-at}
 use Rattle.standard.proofs.factor.Statement.{statement}
@@ -23,13 +23,13 @@ column-below : (k : ℕ) → columnOf false k < 10
 unfolding columnOf
 column-below k = ltb→lt _ _ (all-at (λ x. ltb x 10) (kindColumns false) 0 tt tt k)
 
-in-column : (l : Line) (k : ℕ) → 0 < k → k < kinds → getD (entries l) (columnOf false k) 0 ≡ getD (columns false l) k 0
+in-column : (l : Line) (k : ℕ) → 0 < k → k < kindCount → getD (entries l) (columnOf false k) 0 ≡ getD (columns false l) k 0
 unfolding columnOf
 in-column l k p h = same-at (λ j. getD (entries l) (columnOf false j) 0) (λ j. getD (columns false l) j 0) 1 11 k refl p h
 
-row-entries : (r : ℕ) → r < rows → getD rowTable r [] ≡ entries (getD lines r blank)
+row-entries : (r : ℕ) → r < rowCount → getD rowTable r [] ≡ entries (getD lines r blank)
 unfolding rowTable
-row-entries r h = at (λ i. entries (getD lines i blank)) [] rows r h
+row-entries r h = at (λ i. entries (getD lines i blank)) [] rowCount r h
 
 -- where the option does not reach
 plain : (l : Line) (live k : ℕ) → (k ≡ 5 → ⊥) ⊎ (live ≡ 1 → ⊥) → getD (columns false l) k 0 ≡ getD (columns (eqb live 1) l) k 0

@@ -8,8 +8,8 @@ use mathlib.Core.Path.{_≡_, refl, sym, ap, _∙_, subst}
 use lib.IntN.{ℤ, negℤ, natAbs}
 use Rattle.integers.proofs.Machine.{back, read}
 use Rattle.integers.proofs.Signs.{abs-negated}
-use Rattle.standard.specs.Kinds.{kinds}
-use Rattle.standard.specs.Rows.{rows}
+use Rattle.standard.specs.Kinds.{kindCount}
+use Rattle.standard.specs.Rows.{rowCount}
 use Rattle.envelope.specs.declared.Best.{Best}
 use Rattle.envelope.specs.declared.Extreme.{Extreme}
 use Rattle.envelope.specs.Range.{kindOf, effectOf, effectMost, EffectsInRange}
@@ -31,7 +31,7 @@ kind s = kindOf (s .args .kinds .now)
 abbrev effect : tie.Start → ℕ → ℤ
 effect s k = effectOf (s .args .effects .now) k (s .args .component)
 
-below : (s : tie.Start) (k : ℕ) → kind s k < kinds
+below : (s : tie.Start) (k : ℕ) → kind s k < kindCount
 below s k = omega (arith, s .pre .0 .kinds-range k)
 
 small : (s : tie.Start) (k : ℕ) → natAbs (effect s k) ≤ effectMost
@@ -100,7 +100,7 @@ sets-at-requires c κs =
     let t = c .before .before .before in
     let p = t .before .before .before .before in
     let s = p .before .before in (
-      subst (λ (b : Best). b .row < rows) (sym (most-is t)) (row-below (s .args .s) (kind s) (effect s)),
+      subst (λ (b : Best). b .row < rowCount) (sym (most-is t)) (row-below (s .args .s) (kind s) (effect s)),
       places-in-range (p .places-of .result) (kind s) (p .places-of .ensures),
       chosen-in-range (p .places-of .result) (kind s) (p .places-of .ensures) (t .toward .result .row),
       in-range s,
@@ -115,7 +115,7 @@ sets-at-requires-2 c κs =
     let t = c .before .before .before in
     let p = t .before .before .before .before .before .before in
     let s = p .before .before in (
-      subst (λ (b : Best). b .row < rows) (sym (least-is t)) (row-below (s .args .s) (kind s) (λ k. negℤ (effect s k))),
+      subst (λ (b : Best). b .row < rowCount) (sym (least-is t)) (row-below (s .args .s) (kind s) (λ k. negℤ (effect s k))),
       places-in-range (p .places-of .result) (kind s) (p .places-of .ensures),
       chosen-in-range (p .places-of .result) (kind s) (p .places-of .ensures) (t .toward2 .result .row),
       in-range s,

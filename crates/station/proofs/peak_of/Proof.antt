@@ -5,7 +5,7 @@ use native.Mathlib.Omega.{arith}
 use mathlib.Core.List.{List}
 use mathlib.Core.Path.{_≡_, refl, sym, ap, _∙_, subst}
 use lib.IntN.{ℤ, natAbs}
-use Rattle.standard.specs.Kinds.{kinds}
+use Rattle.standard.specs.Kinds.{kindCount}
 use Rattle.envelope.specs.declared.Weights.{Weights}
 use Rattle.envelope.specs.Range.{effectOf, effectMost, WeightsInRange}
 use Rattle.envelope.specs.Envelope.{patternOf}
@@ -30,16 +30,16 @@ weights s w e = subst WeightsInRange (sym e) (pattern-in-range (s .args .p) 0 (s
 
 -- the sums of the four directions, by the weights of pattern 0
 sums-are : (c : tie.After-four-sums-of) → let s = c .before .before .before .before .before .before .before in let l = c .four-sums-of .last in
-    FourOf (l .0) (l .1 .0) (l .1 .1 .0) (l .1 .1 .1 .0) (s .args .places .now) (ways s) kinds
+    FourOf (l .0) (l .1 .0) (l .1 .1 .0) (l .1 .1 .1 .0) (s .args .places .now) (ways s) kindCount
 sums-are c =
     let w = c .before .before .before .before .before in
     let s = w .before .before in
     let l = c .four-sums-of .last in
-    subst (λ (v : Weights). FourOf (l .0) (l .1 .0) (l .1 .1 .0) (l .1 .1 .1 .0) (s .args .places .now) (directed v (effectOf (s .args .effects .now))) kinds)
+    subst (λ (v : Weights). FourOf (l .0) (l .1 .0) (l .1 .1 .0) (l .1 .1 .1 .0) (s .args .places .now) (directed v (effectOf (s .args .effects .now))) kindCount)
     (w .pattern-weights .ensures) (c .four-sums-of .ensures)
 
 sums-ready : (s : tie.Start) (way : Directions → ℤ) → ((d : Directions) → DirectionsInRange d → natAbs (way d) ≤ effectMost) → (sums : List ℕ) →
-    SumsOf sums (s .args .places .now) (λ k. way (ways s k)) kinds → Ready sums
+    SumsOf sums (s .args .places .now) (λ k. way (ways s k)) kindCount → Ready sums
 sums-ready s way most sums h =
     let kind = s .pre .0 .kind in
     let e : ℕ → ℤ = λ k. way (ways s k) in

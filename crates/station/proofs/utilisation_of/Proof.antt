@@ -7,8 +7,8 @@ use mathlib.Core.Path.{_≡_, refl, sym, ap, _∙_, subst}
 use lib.Dec.{leb}
 use lib.IntN.{ℤ, natAbs}
 use Rattle.integers.proofs.Machine.{back, read}
-use Rattle.standard.specs.Kinds.{kinds}
-use Rattle.standard.specs.Rows.{rows}
+use Rattle.standard.specs.Kinds.{kindCount}
+use Rattle.standard.specs.Rows.{rowCount}
 use Rattle.envelope.specs.declared.Best.{Best}
 use Rattle.envelope.specs.declared.Extreme.{Extreme}
 use Rattle.envelope.specs.declared.Peak.{Peak}
@@ -31,7 +31,7 @@ kind s = kindOf (s .args .kinds .now)
 abbrev effect : tie.Start → ℕ → ℕ → ℤ
 effect s = effectOf (s .args .effects .now)
 
-below : (s : tie.Start) (k : ℕ) → kind s k < kinds
+below : (s : tie.Start) (k : ℕ) → kind s k < kindCount
 below s k = omega (arith, s .pre .0 .kinds-range k)
 
 in-range : (s : tie.Start) → EffectsInRange (s .args .effects .now)
@@ -89,7 +89,7 @@ sets-by-requires c κs =
     let q = w .before .before in
     let p = q .before .before in
     let s = p .before .before in (
-      subst (λ (b : Best). b .row < rows) (sym (best-is w)) (row-below (s .args .s) (kind s) (weighed (w .pattern-weights .result) (effect s))),
+      subst (λ (b : Best). b .row < rowCount) (sym (best-is w)) (row-below (s .args .s) (kind s) (weighed (w .pattern-weights .result) (effect s))),
       places-in-range (p .places-of .result) (kind s) (p .places-of .ensures),
       chosen-in-range (p .places-of .result) (kind s) (p .places-of .ensures) (q .peak-of .result .best .row),
       in-range s,

@@ -7,7 +7,7 @@ use mathlib.Core.Path.{_≡_, _∙_, subst}
 use lib.Pow.{pow-pos}
 use Rattle.integers.specs.Sets.{has}
 use Rattle.integers.proofs.Walks.{Walk, Met, taken-away, walk-from, walk-meets, walk-end}
-use Rattle.standard.specs.Combination.{cases}
+use Rattle.standard.specs.Combination.{caseCount}
 use Rattle.envelope.specs.Range.{effectOf}
 use Rattle.sums.specs.declared.Directions.{Directions}
 use Rattle.sums.specs.declared.FourSides.{FourSides}
@@ -17,7 +17,7 @@ use Rattle.sums.proofs.four_sides_of.Statement.{statement}
 use Rattle.sums.proofs.four_sides_of.Tie as tie
 
 abbrev Inv-loop : tie.InvT-loop
-Inv-loop compared set effects w f₀ rest₀ f rest = Walk (has set) cases (fourIn compared (has set) (directed w (effectOf effects))) rest f
+Inv-loop compared set effects w f₀ rest₀ f rest = Walk (has set) caseCount (fourIn compared (has set) (directed w (effectOf effects))) rest f
 
 abbrev μ-loop : tie.MeasureT-loop
 μ-loop compared set effects w f₀ rest₀ f rest = rest
@@ -29,15 +29,15 @@ abbrev made : tie.Start Inv-loop μ-loop → ℕ → FourSides
 made s = fourIn (s .args .compared) (has (s .args .set)) (ways s)
 
 met : (c : tie.After-lowest Inv-loop μ-loop) → let h = c .before .before in let s = h .before in
-    Met (has (s .args .set)) cases (made s) (h .loop .rest) (c .lowest .result) (h .loop .f)
+    Met (has (s .args .set)) caseCount (made s) (h .loop .rest) (c .lowest .result) (h .loop .f)
 met c =
     let h = c .before .before in
     let s = h .before in
-    walk-meets (has (s .args .set)) cases (made s) (four-skip (s .args .compared) (has (s .args .set)) (ways s))
+    walk-meets (has (s .args .set)) caseCount (made s) (four-skip (s .args .compared) (has (s .args .set)) (ways s))
     (h .loop .rest) (c .lowest .result) (h .loop .f) (h .loop .inv) (c .lowest .ensures)
 
 loop-holds : tie.Need-loop-holds Inv-loop μ-loop
-loop-holds c = walk-from cases (c .args .set) (made c) _ (c .pre .0) (no-four (c .args .compared) (has (c .args .set)) (ways c))
+loop-holds c = walk-from caseCount (c .args .set) (made c) _ (c .pre .0) (no-four (c .args .compared) (has (c .args .set)) (ways c))
 
 lowest-requires : tie.Need-lowest-requires Inv-loop μ-loop
 lowest-requires c κs = search needs
@@ -68,7 +68,7 @@ loop-again c =
     let l = d .before in
     let s = l .before .before .before in
     let m = met l in
-    subst (λ (r : ℕ). Walk (has (s .args .set)) cases (made s) r (f .with-directions .result))
+    subst (λ (r : ℕ). Walk (has (s .args .set)) caseCount (made s) r (f .with-directions .result))
     (taken-away (l .before .before .loop .rest) (l .lowest .result) (c .without-lowest .result) (l .lowest .ensures) (c .without-lowest .ensures))
     (m .after (f .with-directions .result)
     (f .with-directions .ensures
@@ -80,8 +80,8 @@ returns c =
     let h = c .before in
     let s = h .before in
     let none : h .loop .rest ≡ 0 = omega arith in
-    walk-end (has (s .args .set)) cases (made s) (four-skip (s .args .compared) (has (s .args .set)) (ways s)) (h .loop .f)
-    (subst (λ (r : ℕ). Walk (has (s .args .set)) cases (made s) r (h .loop .f)) none (h .loop .inv))
+    walk-end (has (s .args .set)) caseCount (made s) (four-skip (s .args .compared) (has (s .args .set)) (ways s)) (h .loop .f)
+    (subst (λ (r : ℕ). Walk (has (s .args .set)) caseCount (made s) r (h .loop .f)) none (h .loop .inv))
 
 pub four-sides-of-spec : {M : Type 1} → statement M
 four-sides-of-spec =

@@ -9,8 +9,8 @@ use mathlib.Core.Path.{_≡_, refl, sym, ap, _∙_, subst}
 use lib.IntN.{ℤ}
 use lib.ListN.{length, getD}
 use Rattle.integers.specs.Sets.{has}
-use Rattle.standard.specs.Kinds.{classOf, kinds}
-use Rattle.standard.specs.Combination.{cases}
+use Rattle.standard.specs.Kinds.{classOf, kindCount}
+use Rattle.standard.specs.Combination.{caseCount}
 use Rattle.envelope.specs.Range.{effectOf}
 use Rattle.sums.specs.declared.Directions.{Directions}
 use Rattle.sums.specs.declared.FourSides.{FourSides}
@@ -23,10 +23,10 @@ use Rattle.sums.proofs.four_sums_of.Statement.{statement}
 use Rattle.sums.proofs.four_sums_of.Tie as tie
 
 abbrev Inv-loop : tie.InvT-loop
-Inv-loop s0₀ s1₀ s2₀ s3₀ places effects w kind₀ s0 s1 s2 s3 kind = (0 < kind) × (kind ≤ kinds) × FourOf s0 s1 s2 s3 places (directed w (effectOf effects)) kind
+Inv-loop s0₀ s1₀ s2₀ s3₀ places effects w kind₀ s0 s1 s2 s3 kind = (0 < kind) × (kind ≤ kindCount) × FourOf s0 s1 s2 s3 places (directed w (effectOf effects)) kind
 
 abbrev μ-loop : tie.MeasureT-loop
-μ-loop s0₀ s1₀ s2₀ s3₀ places effects w kind₀ s0 s1 s2 s3 kind = kinds - kind
+μ-loop s0₀ s1₀ s2₀ s3₀ places effects w kind₀ s0 s1 s2 s3 kind = kindCount - kind
 
 loop-holds : tie.Need-loop-holds Inv-loop μ-loop
 loop-holds c =
@@ -89,11 +89,11 @@ loop-again c =
     let a = s .args in
     let i = h .loop .inv .2 in
     let more : (way : Directions → ℤ) (sums after : List ℕ) (x : Sides) → SumsOf sums (a .places .now) (λ k. way (directed (a .w) (effectOf (a .effects .now)) k)) (h .loop .kind) →
-    x ≡ sidesIn (alone (classOf (h .loop .kind))) (has (getD (a .places .now) (h .loop .kind) 0)) (λ k. way (directed (a .w) (effectOf (a .effects .now)) k)) cases → after ≡ sidesPut sums (h .loop .kind) x →
+    x ≡ sidesIn (alone (classOf (h .loop .kind))) (has (getD (a .places .now) (h .loop .kind) 0)) (λ k. way (directed (a .w) (effectOf (a .effects .now)) k)) caseCount → after ≡ sidesPut sums (h .loop .kind) x →
     SumsOf after (a .places .now) (λ k. way (directed (a .w) (effectOf (a .effects .now)) k)) (h .loop .kind + 1) =
     λ way sums after x held is put. subst (λ (l : List ℕ). SumsOf l (a .places .now) (λ k. way (directed (a .w) (effectOf (a .effects .now)) k)) (h .loop .kind + 1)) (sym put)
     (kind-more sums (a .places .now) (λ k. way (directed (a .w) (effectOf (a .effects .now)) k)) (h .loop .kind) held (omega arith) x is) in
-    let made = v .four-sides-of .ensures ∙ ap (λ (t : Bool). fourIn t (has (getD (a .places .now) (h .loop .kind) 0)) (directed (a .w) (effectOf (a .effects .now))) cases) alone-is in (
+    let made = v .four-sides-of .ensures ∙ ap (λ (t : Bool). fourIn t (has (getD (a .places .now) (h .loop .kind) 0)) (directed (a .w) (effectOf (a .effects .now))) caseCount) alone-is in (
       omega arith,
       omega arith,
       record {
@@ -120,7 +120,7 @@ returns : tie.Need-returns Inv-loop μ-loop
 returns c =
     let h = c .before in
     let s = h .before .before .before .before .before .before in
-    let end : h .loop .kind ≡ kinds = omega arith in
+    let end : h .loop .kind ≡ kindCount = omega arith in
     subst (FourOf (h .loop .s0) (h .loop .s1) (h .loop .s2) (h .loop .s3) (s .args .places .now) (directed (s .args .w) (effectOf (s .args .effects .now)))) end (h .loop .inv .2)
 
 pub four-sums-of-spec : {M : Type 1} → statement M

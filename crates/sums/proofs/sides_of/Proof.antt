@@ -11,7 +11,7 @@ use mir.ValLaws.{toZ-ofZ}
 use Rattle.integers.specs.Sets.{has}
 use Rattle.integers.proofs.Machine.{read}
 use Rattle.integers.proofs.Walks.{Walk, Met, taken-away, walk-from, walk-meets, walk-end}
-use Rattle.standard.specs.Combination.{cases}
+use Rattle.standard.specs.Combination.{caseCount}
 use Rattle.envelope.specs.Range.{effectOf, effectMost}
 use Rattle.sums.specs.declared.Sides.{Sides}
 use Rattle.sums.specs.Sums.{sidesIn, sidesWith, SidesRoom}
@@ -20,7 +20,7 @@ use Rattle.sums.proofs.sides_of.Statement.{statement}
 use Rattle.sums.proofs.sides_of.Tie as tie
 
 abbrev Inv-loop : tie.InvT-loop
-Inv-loop compared set effects component s₀ rest₀ s rest = Walk (has set) cases (sidesIn compared (has set) (λ k. effectOf effects k component)) rest s
+Inv-loop compared set effects component s₀ rest₀ s rest = Walk (has set) caseCount (sidesIn compared (has set) (λ k. effectOf effects k component)) rest s
 
 abbrev μ-loop : tie.MeasureT-loop
 μ-loop compared set effects component s₀ rest₀ s rest = rest
@@ -33,11 +33,11 @@ abbrev made : tie.Start Inv-loop μ-loop → ℕ → Sides
 made s = sidesIn (s .args .compared) (has (s .args .set)) (effect s)
 
 met : (c : tie.After-lowest Inv-loop μ-loop) → let h = c .before .before in let s = h .before in
-    Met (has (s .args .set)) cases (made s) (h .loop .rest) (c .lowest .result) (h .loop .s)
+    Met (has (s .args .set)) caseCount (made s) (h .loop .rest) (c .lowest .result) (h .loop .s)
 met c =
     let h = c .before .before in
     let s = h .before in
-    walk-meets (has (s .args .set)) cases (made s) (sides-skip (s .args .compared) (has (s .args .set)) (effect s))
+    walk-meets (has (s .args .set)) caseCount (made s) (sides-skip (s .args .compared) (has (s .args .set)) (effect s))
     (h .loop .rest) (c .lowest .result) (h .loop .s) (h .loop .inv) (c .lowest .ensures)
 
 read-effect : (c : tie.After-widen Inv-loop μ-loop) → let l = c .before .before in c .widen .result ≡ effect (l .before .before .before) (l .lowest .result)
@@ -47,7 +47,7 @@ small : (s : tie.Start Inv-loop μ-loop) (k : ℕ) → natAbs (effect s k) ≤ e
 small s k = omega (arith, s .pre .1 .range (k * 3 + s .args .component))
 
 loop-holds : tie.Need-loop-holds Inv-loop μ-loop
-loop-holds c = walk-from cases (c .args .set) (made c) _ (c .pre .0) (no-sides (c .args .compared) (has (c .args .set)) (effect c))
+loop-holds c = walk-from caseCount (c .args .set) (made c) _ (c .pre .0) (no-sides (c .args .compared) (has (c .args .set)) (effect c))
 
 lowest-requires : tie.Need-lowest-requires Inv-loop μ-loop
 lowest-requires c κs = search needs
@@ -91,7 +91,7 @@ loop-again c =
     let l = w .before .before in
     let s = l .before .before .before in
     let m = met l in
-    subst (λ (r : ℕ). Walk (has (s .args .set)) cases (made s) r (f .with-effect .result))
+    subst (λ (r : ℕ). Walk (has (s .args .set)) caseCount (made s) r (f .with-effect .result))
     (taken-away (l .before .before .loop .rest) (l .lowest .result) (c .without-lowest .result) (l .lowest .ensures) (c .without-lowest .ensures))
     (m .after (f .with-effect .result)
     (f .with-effect .ensures
@@ -103,8 +103,8 @@ returns c =
     let h = c .before in
     let s = h .before in
     let none : h .loop .rest ≡ 0 = omega arith in
-    walk-end (has (s .args .set)) cases (made s) (sides-skip (s .args .compared) (has (s .args .set)) (effect s)) (h .loop .s)
-    (subst (λ (r : ℕ). Walk (has (s .args .set)) cases (made s) r (h .loop .s)) none (h .loop .inv))
+    walk-end (has (s .args .set)) caseCount (made s) (sides-skip (s .args .compared) (has (s .args .set)) (effect s)) (h .loop .s)
+    (subst (λ (r : ℕ). Walk (has (s .args .set)) caseCount (made s) r (h .loop .s)) none (h .loop .inv))
 
 pub sides-of-spec : {M : Type 1} → statement M
 sides-of-spec =

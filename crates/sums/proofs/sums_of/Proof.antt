@@ -9,8 +9,8 @@ use mathlib.Core.List.{List}
 use lib.IntN.{ℤ}
 use lib.ListN.{length, getD}
 use Rattle.integers.specs.Sets.{has}
-use Rattle.standard.specs.Combination.{cases}
-use Rattle.standard.specs.Kinds.{kinds}
+use Rattle.standard.specs.Combination.{caseCount}
+use Rattle.standard.specs.Kinds.{kindCount}
 use Rattle.envelope.specs.Range.{effectOf}
 use Rattle.sums.specs.Sums.{SumsOf, SidesInRange, sidesIn}
 use Rattle.sums.proofs.Gathered.{no-kinds, kind-more}
@@ -19,10 +19,10 @@ use Rattle.sums.proofs.sums_of.Statement.{statement}
 use Rattle.sums.proofs.sums_of.Tie as tie
 
 abbrev Inv-loop : tie.InvT-loop
-Inv-loop places effects component sums₀ kind₀ sums kind = (0 < kind) × (kind ≤ kinds) × SumsOf sums places (λ k. effectOf effects k component) kind
+Inv-loop places effects component sums₀ kind₀ sums kind = (0 < kind) × (kind ≤ kindCount) × SumsOf sums places (λ k. effectOf effects k component) kind
 
 abbrev μ-loop : tie.MeasureT-loop
-μ-loop places effects component sums₀ kind₀ sums kind = kinds - kind
+μ-loop places effects component sums₀ kind₀ sums kind = kindCount - kind
 
 loop-holds : tie.Need-loop-holds Inv-loop μ-loop
 loop-holds c = (omega arith, omega arith, no-kinds _ _ _ refl)
@@ -55,7 +55,7 @@ put-sides-requires c κs =
       h .loop .inv .2 .long,
       omega arith,
       subst SidesInRange (sym (x .sides-of .ensures))
-          (sides-in-range _ (has (getD (a .places .now) (h .loop .kind) 0)) e (λ k. omega (arith, s .pre .1 .range (k * 3 + a .component))) cases (omega arith)),
+          (sides-in-range _ (has (getD (a .places .now) (h .loop .kind) 0)) e (λ k. omega (arith, s .pre .1 .range (k * 3 + a .component))) caseCount (omega arith)),
     )
 
 add-kind : tie.Need-add-kind Inv-loop μ-loop
@@ -77,14 +77,14 @@ loop-again c =
       omega arith,
       subst (λ (l : List ℕ). SumsOf l (s .args .places .now) e (h .loop .kind + 1)) (sym (p .put-sides .ensures))
           (kind-more (h .loop .sums) (s .args .places .now) e (h .loop .kind) (i .2) (omega arith) (x .sides-of .result)
-          (x .sides-of .ensures ∙ ap (λ (t : Bool). sidesIn t (has (getD (s .args .places .now) (h .loop .kind) 0)) e cases) (q .acts-alone .ensures))),
+          (x .sides-of .ensures ∙ ap (λ (t : Bool). sidesIn t (has (getD (s .args .places .now) (h .loop .kind) 0)) e caseCount) (q .acts-alone .ensures))),
     )
 
 returns : tie.Need-returns Inv-loop μ-loop
 returns c =
     let h = c .before in
     let s = h .before .before in
-    let end : h .loop .kind ≡ kinds = omega arith in
+    let end : h .loop .kind ≡ kindCount = omega arith in
     subst (SumsOf (h .loop .sums) (s .args .places .now) (λ k. effectOf (s .args .effects .now) k (s .args .component))) end (h .loop .inv .2)
 
 pub sums-of-spec : {M : Type 1} → statement M

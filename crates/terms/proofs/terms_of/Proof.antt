@@ -9,7 +9,7 @@ use mir.Syntax.{w64}
 use mir.Val.{toZ, ofZ}
 use Rattle.integers.specs.Sums.{up}
 use Rattle.integers.proofs.Machine.{read}
-use Rattle.standard.specs.Kinds.{kinds}
+use Rattle.standard.specs.Kinds.{kindCount}
 use Rattle.envelope.specs.Range.{effectMost}
 use Rattle.sums.specs.Sums.{heldAt}
 use Rattle.terms.specs.Value.{termsBy}
@@ -17,7 +17,7 @@ use borrow.Author.Needs.{needs}
 use Rattle.terms.proofs.terms_of.Statement.{statement}
 use Rattle.terms.proofs.terms_of.Tie as tie
 
-held-most : (s : tie.Start) (j t : ℕ) → 0 < j → j < kinds → t < 2 → heldAt (s .args .sums .now) j t ≤ 32 * effectMost
+held-most : (s : tie.Start) (j t : ℕ) → 0 < j → j < kindCount → t < 2 → heldAt (s .args .sums .now) j t ≤ 32 * effectMost
 held-most s j t = s .pre .0 .each j t
 
 -- a call's number, as the machine reads it back
