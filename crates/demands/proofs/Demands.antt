@@ -22,11 +22,11 @@ use Rattle.sheet.specs.declared.Sheet.{Sheet}
 use Rattle.sheet.specs.declared.Answer.the-variants as answer
 use Rattle.sheet.specs.declared.Answered.{Answered}
 use Rattle.sheet.specs.Sheet.{freshSheet, kindAt, effectAt, capacityAt}
-use Rattle.sheet.specs.Edits.{dueSettings}
-use Rattle.sheet.specs.Looks.{stationEffects, capacitiesAt, extremesAt, utilisationAt, dueExtremes, dueUtilisationAt, lookedExtremes, lookedUtilisation}
+use Rattle.refusals.specs.Refusals.{dueSettings, dueExtremes, dueUtilisationAt}
+use Rattle.sheet.specs.Looks.{stationEffects, capacitiesAt, extremesAt, utilisationAt, lookedExtremes, lookedUtilisation}
 use Rattle.sheet.specs.Range.{InRange}
 use Rattle.sheet.proofs.Kept.{fresh-in-range}
-use Rattle.sheet.proofs.Refusals.{settings-range}
+use Rattle.refusals.proofs.Fits.{settings-range}
 use Rattle.sheet.proofs.Stations.{effect-seen}
 use Rattle.fields.specs.declared.Reading.{Reading}
 use Rattle.fields.specs.Field.{lengthOf, dueHeader, runOf, fieldOf, readField}

@@ -20,6 +20,13 @@ effectOf effects k j = getD effects (k * 3 + j) (pos 0)
 abbrev pub listed : List ℤ → ℕ → ℤ
 listed e k = getD e k (pos 0)
 
+-- stations, and the components N, My, Mz
+abbrev pub stationCount : ℕ
+stationCount = 16
+
+abbrev pub componentCount : ℕ
+componentCount = 3
+
 -- effects run from -10,000 to 10,000, capacities from 1 to 10,000
 abbrev pub effectLimit : ℕ
 effectLimit = 10000
@@ -30,7 +37,7 @@ capacityLimit = 10000
 -- the kinds of the cases, and three effects of each
 pub record StationInRange (kinds : List ℕ) (effects : List ℤ) : Type 0 where
   pub kinds-long : length kinds ≡ caseCount
-  pub effects-long : length effects ≡ caseCount * 3
+  pub effects-long : length effects ≡ caseCount * componentCount
   pub kinds-range : (k : ℕ) → getD kinds k 0 < kindCount
   pub effects-range : (i : ℕ) → natAbs (getD effects i (pos 0)) ≤ effectLimit
 
@@ -40,7 +47,7 @@ pub record KindsInRange (kinds : List ℕ) : Type 0 where
   pub range : (k : ℕ) → getD kinds k 0 < kindCount
 
 pub record EffectsInRange (effects : List ℤ) : Type 0 where
-  pub long : length effects ≡ caseCount * 3
+  pub long : length effects ≡ caseCount * componentCount
   pub range : (i : ℕ) → natAbs (getD effects i (pos 0)) ≤ effectLimit
 
 pub record CapacitiesInRange (p : Capacities) : Type 0 where

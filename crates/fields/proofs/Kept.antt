@@ -8,7 +8,8 @@ use Rattle.wire.specs.Bytes.{byteAt, wordAt, signed16}
 use Rattle.sheet.specs.declared.Sheet.{Sheet}
 use Rattle.sheet.specs.declared.Answered.{Answered}
 use Rattle.sheet.specs.Sheet.{withKind, withEffects, withCapacities}
-use Rattle.sheet.specs.Edits.{dueFill, dueEffects, dueEmpty, dueCapacities}
+use Rattle.sheet.specs.Edits.{dueFill, dueEffects, dueEmpty}
+use Rattle.refusals.specs.Refusals.{dueCapacities}
 use Rattle.sheet.specs.Looks.{lookedExtremes, lookedUtilisation}
 use Rattle.sheet.specs.Range.{InRange}
 use Rattle.sheet.proofs.Kept.{tried-kept, restarted, fill-kept, effects-kept, emptied-kept, capacities-kept}

@@ -14,7 +14,8 @@ use Rattle.envelope.specs.declared.Extreme.{Extreme}
 use Rattle.envelope.specs.declared.Utilised.{Utilised}
 use Rattle.sheet.specs.Looks.{lookedExtremes, lookedUtilisation, edited}
 use Rattle.sheet.specs.Sheet.{fresh, withKind, withEffects, withCapacities}
-use Rattle.sheet.specs.Edits.{dueSettings, dueFill, dueEffects, dueEmpty, dueCapacities, tried}
+use Rattle.refusals.specs.Refusals.{dueSettings, dueCapacities}
+use Rattle.sheet.specs.Edits.{dueFill, dueEffects, dueEmpty, tried}
 use Rattle.fields.specs.declared.Header.{Header}
 use Rattle.fields.specs.declared.Header.the-variants.{Field, Short}
 use Rattle.fields.specs.declared.Reading.{Reading}

@@ -16,8 +16,9 @@ use Rattle.wire.proofs.Cases.{lt-or-ge}
 use Rattle.wire.proofs.Stores.{front}
 use Rattle.sheet.specs.declared.Sheet.{Sheet}
 use Rattle.sheet.specs.declared.Rest.{Rest}
-use Rattle.sheet.specs.Sheet.{zeros, fresh, freshSheet}
-use Rattle.sheet.specs.Edits.{dueSettings}
+use Rattle.effects.specs.Effects.{zeros}
+use Rattle.sheet.specs.Sheet.{fresh, freshSheet}
+use Rattle.refusals.specs.Refusals.{dueSettings}
 use Rattle.sheet.specs.Range.{InRange}
 use Rattle.sheet.specs.Parts.{whole}
 use Rattle.sheet.proofs.Kept.{fresh-in-range}

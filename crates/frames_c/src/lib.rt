@@ -8,7 +8,7 @@ ghost use mathlib.Core.Path.{_≡_};
 ghost use mathlib.Core.Bool.{true, false};
 ghost use Prim.Native.Nat.{_+_, _*_, _≤_, _<_};
 ghost use lib.ListN.{length, drop};
-ghost use Rattle.sheet.specs.Sheet.{zeros};
+ghost use Rattle.effects.specs.Effects.{zeros};
 ghost use Rattle.sheet.specs.Parts.{whole};
 ghost use Rattle.sheet.specs.Range.{InRange};
 ghost use Rattle.frames_c.specs.Lists.{fieldsOf, refusalOf, loaded, dueState, short, AnswerDone, RunDone};

@@ -16,7 +16,8 @@ use mir.Val.{ofZ, SFits}
 use mir.ValLaws.{toZ-ofZ}
 use Rattle.wire.specs.Bytes.{signed16, bits16, over}
 use Rattle.wire.proofs.Stores.{Put, put-none, put-long, put-two, front}
-use Rattle.sheet.specs.Sheet.{place, capacityIn}
+use Rattle.effects.specs.Effects.{place}
+use Rattle.sheet.specs.Sheet.{capacityIn}
 use Rattle.saving.specs.Saved.{upTo, allZero, effectsField, fillField, capacitiesField, stationBytes, caseBytes, capacityBytes}
 use Rattle.saving.proofs.Lengths.{upTo-most}
 

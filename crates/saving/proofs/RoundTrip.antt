@@ -13,9 +13,9 @@ use lib.IntN.{pos}
 use Rattle.wire.specs.Bytes.{signed16, wordBytes}
 use Rattle.sheet.specs.declared.Sheet.{Sheet}
 use Rattle.sheet.specs.Sheet.{kindAt, effectAt, capacityAt, fresh, freshSheet, withKind, withEffects, withCapacities}
-use Rattle.sheet.specs.Edits.{dueSettings}
+use Rattle.refusals.specs.Refusals.{dueSettings}
 use Rattle.sheet.specs.Range.{InRange, Whole}
-use Rattle.sheet.proofs.Refusals.{CapacitiesFit, inside, fill-allowed, effects-allowed, capacities-allowed}
+use Rattle.refusals.proofs.Fits.{CapacitiesFit, inside, fill-allowed, effects-allowed, capacities-allowed}
 use Rattle.sheet.proofs.Kept.{fresh-in-range}
 use Rattle.fields.proofs.Kept.{read-kept}
 use Rattle.fields.specs.Field.{readField}

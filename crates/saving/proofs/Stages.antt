@@ -19,7 +19,8 @@ use Rattle.wire.specs.Bytes.{signed16}
 use Rattle.wire.proofs.Cases.{lt-or-ge, eq-or-ne}
 use Rattle.sheet.specs.declared.Sheet.{Sheet}
 use Rattle.sheet.specs.Sheet.{kindAt, effectAt, capacityAt, fresh, withKind, withEffects, withCapacities}
-use Rattle.sheet.specs.Edits.{dueSettings, dueFill, dueEffects, dueCapacities}
+use Rattle.refusals.specs.Refusals.{dueSettings, dueCapacities}
+use Rattle.sheet.specs.Edits.{dueFill, dueEffects}
 use Rattle.sheet.specs.Range.{InRange}
 use Rattle.sheet.proofs.Access.{Long, long, fresh-long, kind-long, effects-long, capacities-long, kind-filled, kind-other, effect-cleared, effect-kept, kind-leaves-capacity, kind-leaves-settings, effect-replaced, effect-other, effects-leave-kind, effects-leave-capacity, effects-leave-settings, capacity-replaced, capacity-other, capacities-leave-kind, capacities-leave-effect, capacities-leave-settings, fresh-settings, fresh-kind, fresh-effect, fresh-capacity, same-sheet}
 use Rattle.sheet.proofs.Refusals.{tried-none}

@@ -8,7 +8,8 @@ use lib.IntN.{ℤ}
 use Rattle.wire.specs.Bytes.{wordBytes, bits16, over}
 use Rattle.standard.specs.declared.Settings.{Settings}
 use Rattle.sheet.specs.declared.Sheet.{Sheet}
-use Rattle.sheet.specs.Sheet.{kindAt, effectIn, capacityIn}
+use Rattle.sheet.specs.Sheet.{kindAt, capacityIn}
+use Rattle.effects.specs.Effects.{effectIn}
 use Rattle.saving.specs.declared.Saved.{Saved}
 use Rattle.saving.specs.declared.Saved.the-variants.{Written, Refused}
 

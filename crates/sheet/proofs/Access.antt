@@ -9,17 +9,20 @@ use lib.ListN.{length, getD, length-set, length-replicate}
 use lib.Seq.{sets, length-sets, ext-getD, getD-set-same, getD-set-other}
 use lib.IntN.{ℤ, pos}
 use Rattle.standard.specs.declared.Settings.{Settings}
+use Rattle.standard.specs.Combination.{caseCount}
+use Rattle.envelope.specs.Range.{stationCount, componentCount}
 use Rattle.wire.proofs.Cases.{lt-or-ge, eq-or-ne}
 use Rattle.wire.proofs.Stores.{sets-keep, sets-below, sets-above, sets-at, replicate-all}
 use Rattle.sheet.specs.declared.Sheet.{Sheet}
-use Rattle.sheet.specs.Sheet.{kindAt, effectIn, effectAt, capacityAt, place, zeros, cleared, fresh, withKind, withEffects, withCapacities}
+use Rattle.sheet.specs.Sheet.{kindAt, effectAt, capacityCount, capacityAt, fresh, withKind, withEffects, withCapacities}
+use Rattle.effects.specs.Effects.{effectCount, stationLength, effectIn, place, zeros, cleared}
 use Rattle.sheet.specs.Range.{InRange}
 
 -- ---- lengths
 pub record Long (s : Sheet) : Type 0 where
-  pub kinds : length (s .kinds) ≡ 32
-  pub effects : length (s .effects) ≡ 1536
-  pub capacities : length (s .capacities) ≡ 48
+  pub kinds : length (s .kinds) ≡ caseCount
+  pub effects : length (s .effects) ≡ effectCount
+  pub capacities : length (s .capacities) ≡ capacityCount
 
 pub long : {s : Sheet} → InRange s → Long s
 long h = record { kinds = h .kinds-long; effects = h .effects-long; capacities = h .capacities-long }
@@ -32,16 +35,16 @@ length-cleared l k (suc n) = length-sets (cleared l k n) (place k n) (pos 0 ∷ 
 pub fresh-long : (settings : Settings) → Long (fresh settings)
 unfolding fresh zeros
 fresh-long settings = record {
-  kinds = length-replicate {A = ℕ} 32 0;
-  effects = length-replicate 1536 (pos 0);
-  capacities = length-replicate {A = ℕ} 48 0;
+  kinds = length-replicate {A = ℕ} caseCount 0;
+  effects = length-replicate effectCount (pos 0);
+  capacities = length-replicate {A = ℕ} capacityCount 0;
 }
 
 pub kind-long : (s : Sheet) (k v : ℕ) → Long s → Long (withKind s k v)
 unfolding withKind
 kind-long s k v h = record {
   kinds = length-set (s .kinds) k v ∙ h .kinds;
-  effects = length-cleared (s .effects) k 16 ∙ h .effects;
+  effects = length-cleared (s .effects) k stationCount ∙ h .effects;
   capacities = h .capacities;
 }
 
@@ -64,7 +67,7 @@ capacities-long s t n y z h = record {
 -- ---- triples of effects or capacities
 
 -- A triple stored at i leaves what is read of another triple, at m: both stand at multiples of three.
-triple-other : {A : Type 0} (d : A) (l : List A) (x y z : A) (i m a b j : ℕ) → i ≡ a * 3 → m ≡ b * 3 → (b ≡ a → ⊥) → j < 3 →
+triple-other : {A : Type 0} (d : A) (l : List A) (x y z : A) (i m a b j : ℕ) → i ≡ a * 3 → m ≡ b * 3 → (b ≡ a → ⊥) → j < componentCount →
     getD (sets l i (x ∷ y ∷ z ∷ [])) (m + j) d ≡ getD l (m + j) d
 triple-other d l x y z i m a b j p q ne h =
     ⊎-elim
@@ -77,14 +80,14 @@ triple-other d l x y z i m a b j p q ne h =
     sets-above d (x ∷ y ∷ z ∷ []) l i (m + j) g)
     (lt-or-ge (m + j) i)
 
-effects-other : (l : List ℤ) (k t : ℕ) (n y z : ℤ) (k′ t′ j : ℕ) → k < 32 → k′ < 32 → ((k′ ≡ k) × (t′ ≡ t) → ⊥) → j < 3 →
+effects-other : (l : List ℤ) (k t : ℕ) (n y z : ℤ) (k′ t′ j : ℕ) → k < caseCount → k′ < caseCount → ((k′ ≡ k) × (t′ ≡ t) → ⊥) → j < componentCount →
     effectIn (sets l (place k t) (n ∷ y ∷ z ∷ [])) k′ t′ j ≡ effectIn l k′ t′ j
 effects-other l k t n y z k′ t′ j a b ne h =
-    triple-other (pos 0) l n y z (place k t) (place k′ t′) (t * 32 + k) (t′ * 32 + k′) j (omega arith) (omega arith)
+    triple-other (pos 0) l n y z (place k t) (place k′ t′) (t * caseCount + k) (t′ * caseCount + k′) j (omega arith) (omega arith)
     (λ e. ne (omega arith, omega arith)) h
 
 -- ---- a case that is filled or emptied
-pub kind-filled : (s : Sheet) (k v : ℕ) → Long s → k < 32 → kindAt (withKind s k v) k ≡ v
+pub kind-filled : (s : Sheet) (k v : ℕ) → Long s → k < caseCount → kindAt (withKind s k v) k ≡ v
 unfolding withKind
 kind-filled s k v h a =
     let g : k < length (s .kinds) = rw (h .kinds) a in
@@ -97,7 +100,7 @@ kind-other s k v k′ ne = getD-set-other (s .kinds) k k′ v 0 ne
 three-zero : (i : ℕ) → getD (pos 0 ∷ pos 0 ∷ pos 0 ∷ []) i (pos 0) ≡ pos 0
 three-zero i = replicate-all (λ (e : ℤ). e ≡ pos 0) (pos 0) (pos 0) refl refl 3 i
 
-cleared-below : (l : List ℤ) (k n : ℕ) → length l ≡ 1536 → k < 32 → n ≤ 16 → (t j : ℕ) → t < n → j < 3 → effectIn (cleared l k n) k t j ≡ pos 0
+cleared-below : (l : List ℤ) (k n : ℕ) → length l ≡ effectCount → k < caseCount → n ≤ stationCount → (t j : ℕ) → t < n → j < componentCount → effectIn (cleared l k n) k t j ≡ pos 0
 unfolding cleared
 cleared-below l k zero long a b t j h g = absurd (omega arith)
 cleared-below l k (suc n) long a b t j h g =
@@ -107,23 +110,23 @@ cleared-below l k (suc n) long a b t j h g =
     rw e (sets-at (pos 0) (pos 0 ∷ pos 0 ∷ pos 0 ∷ []) (cleared l k n) (place k n) j g w ∙ three-zero j))
     (λ (ne : t ≡ n → ⊥).
     let u : t < n = omega arith in
-    let b′ : n ≤ 16 = omega arith in
+    let b′ : n ≤ stationCount = omega arith in
     sets-keep (λ (e : ℤ). e ≡ pos 0) (pos 0) (pos 0 ∷ pos 0 ∷ pos 0 ∷ []) (cleared l k n) (place k n) (place k t + j) (cleared-below l k n long a b′ t j u g) three-zero)
     (eq-or-ne t n)
 
-cleared-other : (l : List ℤ) (k k′ : ℕ) → k < 32 → k′ < 32 → (k′ ≡ k → ⊥) → (n t j : ℕ) → j < 3 → effectIn (cleared l k n) k′ t j ≡ effectIn l k′ t j
+cleared-other : (l : List ℤ) (k k′ : ℕ) → k < caseCount → k′ < caseCount → (k′ ≡ k → ⊥) → (n t j : ℕ) → j < componentCount → effectIn (cleared l k n) k′ t j ≡ effectIn l k′ t j
 unfolding cleared
 cleared-other l k k′ a b ne zero t j h = refl
 cleared-other l k k′ a b ne (suc n) t j h =
     effects-other (cleared l k n) k n (pos 0) (pos 0) (pos 0) k′ t j a b (λ e. ne (e .0)) h ∙ cleared-other l k k′ a b ne n t j h
 
-pub effect-cleared : (s : Sheet) (k v t j : ℕ) → Long s → k < 32 → t < 16 → j < 3 → effectAt (withKind s k v) k t j ≡ pos 0
+pub effect-cleared : (s : Sheet) (k v t j : ℕ) → Long s → k < caseCount → t < stationCount → j < componentCount → effectAt (withKind s k v) k t j ≡ pos 0
 unfolding effectAt withKind
-effect-cleared s k v t j h a b g = cleared-below (s .effects) k 16 (h .effects) a (omega arith) t j b g
+effect-cleared s k v t j h a b g = cleared-below (s .effects) k stationCount (h .effects) a (omega arith) t j b g
 
-pub effect-kept : (s : Sheet) (k v k′ t j : ℕ) → k < 32 → k′ < 32 → j < 3 → (k′ ≡ k → ⊥) → effectAt (withKind s k v) k′ t j ≡ effectAt s k′ t j
+pub effect-kept : (s : Sheet) (k v k′ t j : ℕ) → k < caseCount → k′ < caseCount → j < componentCount → (k′ ≡ k → ⊥) → effectAt (withKind s k v) k′ t j ≡ effectAt s k′ t j
 unfolding effectAt withKind
-effect-kept s k v k′ t j a b g ne = cleared-other (s .effects) k k′ a b ne 16 t j g
+effect-kept s k v k′ t j a b g ne = cleared-other (s .effects) k k′ a b ne stationCount t j g
 
 pub kind-leaves-capacity : (s : Sheet) (k v t j : ℕ) → capacityAt (withKind s k v) t j ≡ capacityAt s t j
 unfolding capacityAt withKind
@@ -134,14 +137,14 @@ unfolding withKind
 kind-leaves-settings s k v = refl
 
 -- ---- effects that are replaced
-pub effect-replaced : (s : Sheet) (k t : ℕ) (n y z : ℤ) (j : ℕ) → Long s → k < 32 → t < 16 → j < 3 →
+pub effect-replaced : (s : Sheet) (k t : ℕ) (n y z : ℤ) (j : ℕ) → Long s → k < caseCount → t < stationCount → j < componentCount →
     effectAt (withEffects s k t n y z) k t j ≡ getD (n ∷ y ∷ z ∷ []) j (pos 0)
 unfolding effectAt withEffects
 effect-replaced s k t n y z j h a b g =
     let w : place k t + 3 ≤ length (s .effects) = rw (h .effects) (omega arith) in
     sets-at (pos 0) (n ∷ y ∷ z ∷ []) (s .effects) (place k t) j g w
 
-pub effect-other : (s : Sheet) (k t : ℕ) (n y z : ℤ) (k′ t′ j : ℕ) → k < 32 → k′ < 32 → j < 3 → ((k′ ≡ k) × (t′ ≡ t) → ⊥) →
+pub effect-other : (s : Sheet) (k t : ℕ) (n y z : ℤ) (k′ t′ j : ℕ) → k < caseCount → k′ < caseCount → j < componentCount → ((k′ ≡ k) × (t′ ≡ t) → ⊥) →
     effectAt (withEffects s k t n y z) k′ t′ j ≡ effectAt s k′ t′ j
 unfolding effectAt withEffects
 effect-other s k t n y z k′ t′ j a b g ne = effects-other (s .effects) k t n y z k′ t′ j a b ne g
@@ -159,13 +162,13 @@ unfolding withEffects
 effects-leave-settings s k t n y z = refl
 
 -- ---- capacities that are replaced
-pub capacity-replaced : (s : Sheet) (t n y z j : ℕ) → Long s → t < 16 → j < 3 → capacityAt (withCapacities s t n y z) t j ≡ getD (n ∷ y ∷ z ∷ []) j 0
+pub capacity-replaced : (s : Sheet) (t n y z j : ℕ) → Long s → t < stationCount → j < componentCount → capacityAt (withCapacities s t n y z) t j ≡ getD (n ∷ y ∷ z ∷ []) j 0
 unfolding capacityAt withCapacities
 capacity-replaced s t n y z j h a g =
     let w : t * 3 + 3 ≤ length (s .capacities) = rw (h .capacities) (omega arith) in
     sets-at 0 (n ∷ y ∷ z ∷ []) (s .capacities) (t * 3) j g w
 
-pub capacity-other : (s : Sheet) (t n y z t′ j : ℕ) → j < 3 → (t′ ≡ t → ⊥) → capacityAt (withCapacities s t n y z) t′ j ≡ capacityAt s t′ j
+pub capacity-other : (s : Sheet) (t n y z t′ j : ℕ) → j < componentCount → (t′ ≡ t → ⊥) → capacityAt (withCapacities s t n y z) t′ j ≡ capacityAt s t′ j
 unfolding capacityAt withCapacities
 capacity-other s t n y z t′ j g ne = triple-other 0 (s .capacities) n y z (t * 3) (t′ * 3) t t′ j refl refl ne g
 
@@ -188,11 +191,11 @@ fresh-settings settings = refl
 
 pub fresh-kind : (settings : Settings) (k : ℕ) → kindAt (fresh settings) k ≡ 0
 unfolding fresh
-fresh-kind settings k = replicate-all (λ (n : ℕ). n ≡ 0) 0 0 refl refl 32 k
+fresh-kind settings k = replicate-all (λ (n : ℕ). n ≡ 0) 0 0 refl refl caseCount k
 
 pub fresh-stored : (settings : Settings) (i : ℕ) → getD (fresh settings .effects) i (pos 0) ≡ pos 0
 unfolding fresh zeros
-fresh-stored settings i = replicate-all (λ (e : ℤ). e ≡ pos 0) (pos 0) (pos 0) refl refl 1536 i
+fresh-stored settings i = replicate-all (λ (e : ℤ). e ≡ pos 0) (pos 0) (pos 0) refl refl effectCount i
 
 pub fresh-effect : (settings : Settings) (k t j : ℕ) → effectAt (fresh settings) k t j ≡ pos 0
 unfolding effectAt
@@ -200,28 +203,28 @@ fresh-effect settings k t j = fresh-stored settings (place k t + j)
 
 pub fresh-capacity : (settings : Settings) (t j : ℕ) → capacityAt (fresh settings) t j ≡ 0
 unfolding capacityAt fresh
-fresh-capacity settings t j = replicate-all (λ (n : ℕ). n ≡ 0) 0 0 refl refl 48 (t * 3 + j)
+fresh-capacity settings t j = replicate-all (λ (n : ℕ). n ≡ 0) 0 0 refl refl capacityCount (t * 3 + j)
 
 -- ---- sheets that look the same are the same
 pub same-sheet : (a b : Sheet) → Long a → Long b → a .settings ≡ b .settings →
-    ((k : ℕ) → k < 32 → kindAt a k ≡ kindAt b k) →
-    ((k t j : ℕ) → k < 32 → t < 16 → j < 3 → effectAt a k t j ≡ effectAt b k t j) →
-    ((t j : ℕ) → t < 16 → j < 3 → capacityAt a t j ≡ capacityAt b t j) → a ≡ b
+    ((k : ℕ) → k < caseCount → kindAt a k ≡ kindAt b k) →
+    ((k t j : ℕ) → k < caseCount → t < stationCount → j < componentCount → effectAt a k t j ≡ effectAt b k t j) →
+    ((t j : ℕ) → t < stationCount → j < componentCount → capacityAt a t j ≡ capacityAt b t j) → a ≡ b
 unfolding effectAt capacityAt
 same-sheet a b p q s kinds effects capacities =
     let k : a .kinds ≡ b .kinds = ext-getD 0 (a .kinds) (b .kinds) (p .kinds ∙ sym (q .kinds)) (λ i h. kinds i (rw (p .kinds) at h)) in
     let e : a .effects ≡ b .effects = ext-getD (pos 0) (a .effects) (b .effects) (p .effects ∙ sym (q .effects)) (λ i h.
-    let l : i < 1536 = rw (p .effects) at h in
-    let f : place (i % 96 / 3) (i / 96) + i % 3 ≡ i = omega arith in
-    let u : i % 96 / 3 < 32 = omega arith in
-    let v : i / 96 < 16 = omega arith in
-    let w : i % 3 < 3 = omega arith in
-    rw f at (effects (i % 96 / 3) (i / 96) (i % 3) u v w)) in
+    let l : i < effectCount = rw (p .effects) at h in
+    let f : place (i % stationLength / 3) (i / stationLength) + i % 3 ≡ i = omega arith in
+    let u : i % stationLength / 3 < caseCount = omega arith in
+    let v : i / stationLength < stationCount = omega arith in
+    let w : i % 3 < componentCount = omega arith in
+    rw f at (effects (i % stationLength / 3) (i / stationLength) (i % 3) u v w)) in
     let c : a .capacities ≡ b .capacities = ext-getD 0 (a .capacities) (b .capacities) (p .capacities ∙ sym (q .capacities)) (λ i h.
-    let l : i < 48 = rw (p .capacities) at h in
+    let l : i < capacityCount = rw (p .capacities) at h in
     let f : i / 3 * 3 + i % 3 ≡ i = omega arith in
-    let u : i / 3 < 16 = omega arith in
-    let w : i % 3 < 3 = omega arith in
+    let u : i / 3 < stationCount = omega arith in
+    let w : i % 3 < componentCount = omega arith in
     rw f at (capacities (i / 3) (i % 3) u w)) in
     let g : _≡_ {A = Sheet}
     (record { settings = a .settings; kinds = a .kinds; effects = a .effects; capacities = a .capacities })

@@ -11,21 +11,26 @@ use lib.ListN.{getD}
 use lib.IntN.{ℤ, pos, natAbs}
 use borrow.Author.Tests.{eqb-true}
 use Rattle.standard.specs.declared.Settings.{Settings}
+use Rattle.standard.specs.Kinds.{kindCount}
+use Rattle.standard.specs.Combination.{caseCount}
+use Rattle.envelope.specs.Range.{effectLimit, stationCount}
 use Rattle.wire.specs.Bytes.{signed16}
 use Rattle.wire.proofs.Cases.{either, eq-or-ne}
 use Rattle.wire.proofs.Stores.{set-keep, sets-keep, replicate-all}
 use Rattle.sheet.specs.declared.Sheet.{Sheet}
-use Rattle.sheet.specs.Sheet.{kindAt, effectAt, capacityAt, place, cleared, fresh, withKind, withEffects, withCapacities}
-use Rattle.sheet.specs.Edits.{dueSettings, dueFill, dueEffects, dueEmpty, dueCapacities, tried}
-use Rattle.sheet.specs.Range.{InRange, Whole}
-use Rattle.sheet.proofs.Refusals.{fill-range, effects-range, empty-range, capacities-range}
+use Rattle.sheet.specs.Sheet.{kindAt, effectAt, capacityAt, fresh, withKind, withEffects, withCapacities}
+use Rattle.effects.specs.Effects.{place, cleared}
+use Rattle.refusals.specs.Refusals.{dueSettings, dueCapacities}
+use Rattle.sheet.specs.Edits.{dueFill, dueEffects, dueEmpty, tried}
+use Rattle.sheet.specs.Range.{InRange, SettingsInRange, AllOrNone}
+use Rattle.refusals.proofs.Fits.{fill-range, effects-range, empty-range, capacities-range}
 use Rattle.sheet.proofs.Access.{long, fresh-long, kind-long, effects-long, capacities-long, kind-other, effect-cleared, effect-kept, effect-other, capacity-replaced, capacity-other, fresh-kind, fresh-settings, fresh-stored, fresh-effect, fresh-capacity}
 
--- an effect within 10,000
+-- an effect within its limit
 abbrev Within : ℤ → Type 0
-Within e = natAbs e ≤ 10000
+Within e = natAbs e ≤ effectLimit
 
-pub fresh-in-range : (settings : Settings) → dueSettings (settings .method) (settings .live) (settings .zone) ≡ 0 → InRange (fresh settings)
+pub fresh-in-range : (settings : Settings) → SettingsInRange settings → InRange (fresh settings)
 fresh-in-range settings e =
     let l = fresh-long settings in
     record {
@@ -33,7 +38,7 @@ fresh-in-range settings e =
       kinds-long = l .kinds;
       effects-long = l .effects;
       capacities-long = l .capacities;
-      kinds-range = λ k. rw (fresh-kind settings k) zero-le;
+      kinds-range = λ k. rw (fresh-kind settings k) (omega arith);
       effects-range = λ i. rw (fresh-stored settings i) zero-le;
       empty-zero = λ k t j _ _ _ _. fresh-effect settings k t j;
       capacities-whole = λ t _. inl (fresh-capacity settings t 0, fresh-capacity settings t 1, fresh-capacity settings t 2);
@@ -47,7 +52,7 @@ cleared-within l k (suc n) i h =
     sets-keep Within (pos 0) (pos 0 ∷ pos 0 ∷ pos 0 ∷ []) (cleared l k n) (place k n) i (cleared-within l k n i h)
     (replicate-all Within (pos 0) (pos 0) zero-le zero-le 3)
 
-kind-kept : (s : Sheet) (k v : ℕ) → InRange s → k < 32 → v ≤ 11 → InRange (withKind s k v)
+kind-kept : (s : Sheet) (k v : ℕ) → InRange s → k < caseCount → v < kindCount → InRange (withKind s k v)
 unfolding withKind capacityAt
 kind-kept s k v h a b =
     let l = kind-long s k v (long h) in
@@ -56,8 +61,8 @@ kind-kept s k v h a b =
       kinds-long = l .kinds;
       effects-long = l .effects;
       capacities-long = l .capacities;
-      kinds-range = λ q. set-keep (λ (n : ℕ). n ≤ 11) 0 (s .kinds) k v q (h .kinds-range q) b;
-      effects-range = λ i. cleared-within (s .effects) k 16 i (h .effects-range i);
+      kinds-range = λ q. set-keep (λ (n : ℕ). n < kindCount) 0 (s .kinds) k v q (h .kinds-range q) b;
+      effects-range = λ i. cleared-within (s .effects) k stationCount i (h .effects-range i);
       empty-zero = λ q t j e c d f. ⊎-elim
           (λ (r : q ≡ k). rw r (effect-cleared s k v t j (long h) a d f))
           (λ (ne : q ≡ k → ⊥). effect-kept s k v q t j a c f ne ∙ h .empty-zero q t j (sym (kind-other s k v q ne) ∙ e) c d f)
@@ -69,7 +74,7 @@ pub fill-kept : (s : Sheet) (k v : ℕ) → InRange s → dueFill s k v ≡ 0 �
 fill-kept s k v h e = let f = fill-range (kindAt s k) k v e in kind-kept s k v h (f .case) (f .kind)
 
 pub emptied-kept : (s : Sheet) (k : ℕ) → InRange s → dueEmpty s k ≡ 0 → InRange (withKind s k 0)
-emptied-kept s k h e = kind-kept s k 0 h (empty-range (kindAt s k) k e .case) zero-le
+emptied-kept s k h e = kind-kept s k 0 h (empty-range (kindAt s k) k e .case) (omega arith)
 
 three : {A : Type 0} (P : A → Type 0) {a b c d : A} → P a → P b → P c → P d → (i : ℕ) → P (getD (a ∷ b ∷ c ∷ []) i d)
 three P pa pb pc pd zero = pa
@@ -97,9 +102,9 @@ effects-kept s k t n y z h e =
       capacities-whole = h .capacities-whole;
     }
 
--- three capacities that are equal to whole ones
-whole : {f g : ℕ → ℕ} → ((j : ℕ) → j < 3 → f j ≡ g j) → Whole (g 0) (g 1) (g 2) → Whole (f 0) (f 1) (f 2)
-whole e w = rw (e 0 (omega arith), e 1 (omega arith), e 2 (omega arith)) w
+-- three capacities that are equal to others
+same-capacities : {f g : ℕ → ℕ} → ((j : ℕ) → j < 3 → f j ≡ g j) → AllOrNone (g 0) (g 1) (g 2) → AllOrNone (f 0) (f 1) (f 2)
+same-capacities e w = rw (e 0 (omega arith), e 1 (omega arith), e 2 (omega arith)) w
 
 pub capacities-kept : (s : Sheet) (t n y z : ℕ) → InRange s → dueCapacities t n y z ≡ 0 → InRange (withCapacities s t n y z)
 unfolding withCapacities effectAt
@@ -115,8 +120,8 @@ capacities-kept s t n y z h e =
       effects-range = h .effects-range;
       empty-zero = h .empty-zero;
       capacities-whole = λ u c. ⊎-elim
-          (λ (r : u ≡ t). rw r (whole (λ j g. capacity-replaced s t n y z j (long h) (f .station) g) (inr (f .n, f .y, f .z))))
-          (λ (ne : u ≡ t → ⊥). whole (λ j g. capacity-other s t n y z u j g ne) (h .capacities-whole u c))
+          (λ (r : u ≡ t). rw r (same-capacities (λ j g. capacity-replaced s t n y z j (long h) (f .station) g) (inr (f .n, f .y, f .z))))
+          (λ (ne : u ≡ t → ⊥). same-capacities (λ j g. capacity-other s t n y z u j g ne) (h .capacities-whole u c))
           (eq-or-ne u t);
     }
 

@@ -1,4 +1,4 @@
--- What follows from no refusal due, and the edit that a refusal leaves undone.
+-- The edit that a refusal leaves undone, and the answer that it gives.
 -- Assumes nothing.
 use Prim.Native.Nat.{ℕ, zero, suc, _≤_, _<_}
 use mathlib.Core.Path.{_≡_, refl, ap, _∙_}
@@ -12,149 +12,9 @@ use Rattle.sheet.specs.declared.Sheet.{Sheet}
 use Rattle.sheet.specs.declared.Edited.{Edited}
 use Rattle.sheet.specs.declared.Answer.{Answer}
 use Rattle.sheet.specs.declared.Answer.the-variants as answer
-use Rattle.sheet.specs.Looks.{dueExtremes, dueUtilisationAt, unlessDue}
-use Rattle.sheet.specs.Edits.{effectOutside, capacityOutside, kindOutside, methodOutside, dueSettings, dueFillAt, dueEffectsAt, dueEmptyAt, dueCapacities, tried}
-
--- a chain of refusals that gives 0: its first test fails, and the rest gives 0
-pub none-due : (t : Bool) (n r : ℕ) → 0 < n → cond t n r ≡ 0 → (t ≡ false) × (r ≡ 0)
-none-due true n r h e = absurd (let z : n ≡ 0 = e in omega arith)
-none-due false n r h e = (refl, e)
-
--- a last refusal that is due unless a test holds
-pub unless-due : (t : Bool) (n : ℕ) → 0 < n → cond t 0 n ≡ 0 → t ≡ true
-unless-due true n h e = refl
-unless-due false n h e = absurd (let z : n ≡ 0 = e in omega arith)
-
--- no test of two holds
-neither : (a b : Bool) → (a || b) ≡ false → (a ≡ false) × (b ≡ false)
-neither false b e = (refl, e)
-neither true b e = absurd (let z : _≡_ {A = ℕ} 0 1 = cc in omega arith)
-
--- not outside the numbers from 1 on, whether kinds, methods or capacities
-pub inside : (n top : ℕ) → (eqb n 0 || ltb top n) ≡ false → (0 < n) × (n ≤ top)
-inside n top e =
-    let h = neither (eqb n 0) (ltb top n) e in
-    let g : n ≡ 0 → ⊥ = eqb-false n 0 (h .0) in
-    (omega arith, ltb-false top n (h .1))
-
--- not above the top
-below : (top n : ℕ) → ltb top n ≡ false → n < suc top
-below top n e = let h : n ≤ top = ltb-false top n e in omega arith
-
--- what no refusal due says of each body
-pub record SettingsFit (m l z : ℕ) : Type 0 where
-  pub some : 0 < m
-  pub method : m ≤ 2
-  pub live : l ≤ 1
-  pub zone : z ≤ 2
-
-pub record FillFits (h k v : ℕ) : Type 0 where
-  pub case : k < 32
-  pub some : 0 < v
-  pub kind : v ≤ 11
-  pub empty : h ≡ 0
-
-pub record EffectsFit (h k t a b c : ℕ) : Type 0 where
-  pub case : k < 32
-  pub station : t < 16
-  pub n : natAbs (signed16 a) ≤ 10000
-  pub y : natAbs (signed16 b) ≤ 10000
-  pub z : natAbs (signed16 c) ≤ 10000
-  pub filled : h ≡ 0 → ⊥
-
-pub record EmptyFits (h k : ℕ) : Type 0 where
-  pub case : k < 32
-  pub filled : h ≡ 0 → ⊥
-
-pub record CapacitiesFit (t a b c : ℕ) : Type 0 where
-  pub station : t < 16
-  pub n : capacityOutside a ≡ false
-  pub y : capacityOutside b ≡ false
-  pub z : capacityOutside c ≡ false
-
-pub settings-range : (method live zone : ℕ) → dueSettings method live zone ≡ 0 → SettingsFit method live zone
-unfolding dueSettings
-settings-range method live zone e =
-    let a = none-due (methodOutside method) 4 _ (lit< tt) e in
-    let b = none-due (ltb 1 live) 4 _ (lit< tt) (a .1) in
-    let c = none-due (ltb 2 zone) 4 _ (lit< tt) (b .1) in
-    let m = inside method 2 (a .0) in
-    record { some = m .0; method = m .1; live = ltb-false 1 live (b .0); zone = ltb-false 2 zone (c .0) }
-
-pub fill-range : (held case kind : ℕ) → dueFillAt held case kind ≡ 0 → FillFits held case kind
-unfolding dueFillAt
-fill-range held case kind e =
-    let a = none-due (ltb 31 case) 5 _ (lit< tt) e in
-    let b = none-due (kindOutside kind) 7 _ (lit< tt) (a .1) in
-    let k = inside kind 11 (b .0) in
-    record {
-      case = below 31 case (a .0);
-      some = k .0;
-      kind = k .1;
-      empty = eqb-true held 0 (unless-due (eqb held 0) 11 (lit< tt) (b .1));
-    }
-
-pub effects-range : (held case station n y z : ℕ) → dueEffectsAt held case station n y z ≡ 0 → EffectsFit held case station n y z
-unfolding dueEffectsAt
-effects-range held case station n y z e =
-    let a = none-due (ltb 31 case) 5 _ (lit< tt) e in
-    let b = none-due (ltb 15 station) 6 _ (lit< tt) (a .1) in
-    let c = none-due (effectOutside n) 9 _ (lit< tt) (b .1) in
-    let d = none-due (effectOutside y) 9 _ (lit< tt) (c .1) in
-    let f = none-due (effectOutside z) 9 _ (lit< tt) (d .1) in
-    record {
-      case = below 31 case (a .0);
-      station = below 15 station (b .0);
-      n = ltb-false 10000 _ (c .0);
-      y = ltb-false 10000 _ (d .0);
-      z = ltb-false 10000 _ (f .0);
-      filled = eqb-false held 0 (none-due (eqb held 0) 12 _ (lit< tt) (f .1) .0);
-    }
-
-pub empty-range : (held case : ℕ) → dueEmptyAt held case ≡ 0 → EmptyFits held case
-unfolding dueEmptyAt
-empty-range held case e =
-    let a = none-due (ltb 31 case) 5 _ (lit< tt) e in
-    record { case = below 31 case (a .0); filled = eqb-false held 0 (none-due (eqb held 0) 12 _ (lit< tt) (a .1) .0) }
-
-pub capacities-range : (station n y z : ℕ) → dueCapacities station n y z ≡ 0 → CapacitiesFit station n y z
-unfolding dueCapacities
-capacities-range station n y z e =
-    let a = none-due (ltb 15 station) 6 _ (lit< tt) e in
-    let b = none-due (capacityOutside n) 10 _ (lit< tt) (a .1) in
-    let c = none-due (capacityOutside y) 10 _ (lit< tt) (b .1) in
-    let d = none-due (capacityOutside z) 10 _ (lit< tt) (c .1) in
-    record { station = below 15 station (a .0); n = b .0; y = c .0; z = d .0 }
-
--- and the other way round: what fits is not refused
-inside-test : (n top : ℕ) → 0 < n → n ≤ top → (eqb n 0 || ltb top n) ≡ false
-inside-test n top a b =
-    let g : n ≡ 0 → ⊥ = λ e. omega arith in
-    rw (ne-eqb n 0 g, le-ltb top n b)
-
-below-test : (top n : ℕ) → n < suc top → ltb top n ≡ false
-below-test top n h = let g : n ≤ top = omega arith in le-ltb top n g
-
-pub fill-allowed : (held case kind : ℕ) → FillFits held case kind → dueFillAt held case kind ≡ 0
-unfolding dueFillAt
-fill-allowed held case kind f =
-    rw (below-test 31 case (f .case), inside-test kind 11 (f .some) (f .kind), eq-eqb held 0 (f .empty))
-
-pub effects-allowed : (held case station n y z : ℕ) → EffectsFit held case station n y z → dueEffectsAt held case station n y z ≡ 0
-unfolding dueEffectsAt
-effects-allowed held case station n y z f =
-    rw (
-      below-test 31 case (f .case),
-      below-test 15 station (f .station),
-      le-ltb 10000 _ (f .n),
-      le-ltb 10000 _ (f .y),
-      le-ltb 10000 _ (f .z),
-      ne-eqb held 0 (f .filled),
-    )
-
-pub capacities-allowed : (station n y z : ℕ) → CapacitiesFit station n y z → dueCapacities station n y z ≡ 0
-unfolding dueCapacities
-capacities-allowed station n y z f = rw (below-test 15 station (f .station), f .n, f .y, f .z)
+use Rattle.refusals.specs.Refusals.{dueExtremes, dueUtilisationAt, effectOutside, capacityOutside, kindOutside, methodOutside, dueSettings, dueFillAt, dueEffectsAt, dueEmptyAt, dueCapacities}
+use Rattle.sheet.specs.Looks.{unlessDue}
+use Rattle.sheet.specs.Edits.{tried}
 
 -- an edit whose refusals are tried: made where none is due, else not
 pub tried-none : (d : ℕ) (s s′ : Sheet) {x : Sheet} → d ≡ 0 → x ≡ s′ → _≡_ {A = Edited} (record { refusal = 0; sheet = x }) (tried d s s′)
@@ -164,25 +24,6 @@ tried-none d s s′ {x} e f = rw (e, f)
 pub tried-due : (d : ℕ) (s s′ : Sheet) {e : ℕ} → e ≡ d → (e ≡ 0 → ⊥) → _≡_ {A = Edited} (record { refusal = e; sheet = s }) (tried d s s′)
 unfolding tried
 tried-due d s s′ {e} p h = rw (← p, ne-eqb e 0 h)
-
--- tags 06 and 07
-pub extremes-range : (station component : ℕ) → dueExtremes station component ≡ 0 → (station < 16) × (component < 3)
-unfolding dueExtremes
-extremes-range t j e =
-    let a = none-due (ltb 15 t) 6 (cond (ltb 2 j) 8 0) (omega arith) e in
-    let b = none-due (ltb 2 j) 8 0 (omega arith) (a .1) in
-    (omega (arith, ltb-false 15 t (a .0)), omega (arith, ltb-false 2 j (b .0)))
-
-pub utilisation-range : (held station : ℕ) → dueUtilisationAt held station ≡ 0 → (station < 16) × (0 < held)
-unfolding dueUtilisationAt
-utilisation-range h t e =
-    let a = none-due (ltb 15 t) 6 (cond (eqb h 0) 13 0) (omega arith) e in
-    let b = none-due (eqb h 0) 13 0 (omega arith) (a .1) in
-    (omega (arith, ltb-false 15 t (a .0)), some h (eqb-false h 0 (b .0)))
-  where
-    some : (n : ℕ) → (n ≡ 0 → ⊥) → 0 < n
-    some zero f = absurd (f refl)
-    some (suc n) f = omega arith
 
 pub answered-none : (d : ℕ) (a : Answer) → d ≡ 0 → a ≡ unlessDue d a
 answered-none d a e = rw (eq-eqb d 0 e)

@@ -12,18 +12,20 @@ use lib.Seq.{getD-take, getD-drop}
 use lib.IntN.{ℤ, pos, natAbs}
 use Rattle.wire.proofs.Cases.{lt-or-ge}
 use Rattle.standard.specs.declared.Capacities.{Capacities}
-use Rattle.envelope.specs.Range.{effectOf, StationInRange, CapacitiesInRange}
+use Rattle.standard.specs.Combination.{caseCount}
+use Rattle.envelope.specs.Range.{effectOf, effectLimit, capacityLimit, stationCount, componentCount, StationInRange, CapacitiesInRange}
+use Rattle.effects.specs.Effects.{stationLength, place}
 use Rattle.sheet.specs.declared.Sheet.{Sheet}
 use Rattle.sheet.specs.Sheet.{kindAt, effectAt, capacityAt}
-use Rattle.sheet.specs.Edits.{capacityOutside}
-use Rattle.sheet.specs.Range.{InRange, Whole}
+use Rattle.refusals.specs.Refusals.{capacityOutside}
+use Rattle.sheet.specs.Range.{InRange}
 use Rattle.sheet.specs.Looks.{stationEffects, capacitiesAt}
-use Rattle.sheet.proofs.Refusals.{inside}
+use Rattle.refusals.proofs.Fits.{inside}
 
 -- the part that the code lends
-pub part-is : (s : Sheet) (t : ℕ) → take (t * 96 + 96 - t * 96) (drop (t * 96) (s .effects)) ≡ stationEffects s t
+pub part-is : (s : Sheet) (t : ℕ) → take (t * stationLength + stationLength - t * stationLength) (drop (t * stationLength) (s .effects)) ≡ stationEffects s t
 unfolding stationEffects
-part-is s t = let e : t * 96 + 96 - t * 96 ≡ 96 = omega arith in ap (λ (n : ℕ). take n (drop (t * 96) (s .effects))) e
+part-is s t = let e : t * stationLength + stationLength - t * stationLength ≡ stationLength = omega arith in ap (λ (n : ℕ). take n (drop (t * stationLength) (s .effects))) e
 
 -- and the capacities that it reads
 pub capacities-read : (s : Sheet) (t : ℕ) →
@@ -31,29 +33,29 @@ pub capacities-read : (s : Sheet) (t : ℕ) →
 unfolding capacitiesAt capacityAt
 capacities-read s t = λ i. record { n = getD (s .capacities) (sym (add-zero (t * 3)) i) 0; y = getD (s .capacities) (t * 3 + 1) 0; z = getD (s .capacities) (t * 3 + 2) 0 }
 
-module _ (s : Sheet) (t : ℕ) (h : InRange s) (l : t < 16) where
-  station-long : length (stationEffects s t) ≡ 96
+module _ (s : Sheet) (t : ℕ) (h : InRange s) (l : t < stationCount) where
+  station-long : length (stationEffects s t) ≡ stationLength
   unfolding stationEffects
   station-long = simp (length-take, length-drop) (omega (arith, h .effects-long))
 
   -- the i-th of its effects
-  station-at : (i : ℕ) → i < 96 → getD (stationEffects s t) i (pos 0) ≡ getD (s .effects) (t * 96 + i) (pos 0)
+  station-at : (i : ℕ) → i < stationLength → getD (stationEffects s t) i (pos 0) ≡ getD (s .effects) (t * stationLength + i) (pos 0)
   unfolding stationEffects
   station-at i m = rw (getD-take, getD-drop)
 
-  station-small : (i : ℕ) → natAbs (getD (stationEffects s t) i (pos 0)) ≤ 10000
+  station-small : (i : ℕ) → natAbs (getD (stationEffects s t) i (pos 0)) ≤ effectLimit
   station-small i =
-      ⊎-elim (λ m. rw (station-at i m) (h .effects-range (t * 96 + i)))
+      ⊎-elim (λ m. rw (station-at i m) (h .effects-range (t * stationLength + i)))
       (λ m. let e : getD (stationEffects s t) i (pos 0) ≡ pos 0 = List·getD-eq-default (stationEffects s t) (pos 0) (omega (arith, station-long)) in rw e (omega arith))
-      (lt-or-ge i 96)
+      (lt-or-ge i stationLength)
 
   pub station-in-range : StationInRange (s .kinds) (stationEffects s t)
   station-in-range = record { kinds-long = h .kinds-long; effects-long = station-long; kinds-range = h .kinds-range; effects-range = station-small }
 
-  pub effect-seen : (k j : ℕ) → k < 32 → j < 3 → effectOf (stationEffects s t) k j ≡ effectAt s k t j
+  pub effect-seen : (k j : ℕ) → k < caseCount → j < componentCount → effectOf (stationEffects s t) k j ≡ effectAt s k t j
   unfolding effectAt
   effect-seen k j m n =
-      let e : t * 96 + (k * 3 + j) ≡ t * 96 + k * 3 + j = omega arith in
+      let e : t * stationLength + (k * 3 + j) ≡ place k t + j = omega arith in
       station-at (k * 3 + j) (omega arith) ∙ ap (λ (i : ℕ). getD (s .effects) i (pos 0)) e
 
   pub capacities-in-range : 0 < capacityAt s t 0 → CapacitiesInRange (capacitiesAt s t)
@@ -62,7 +64,7 @@ module _ (s : Sheet) (t : ℕ) (h : InRange s) (l : t < 16) where
     where
       all-in : capacityOutside (capacityAt s t 0) ≡ false → capacityOutside (capacityAt s t 1) ≡ false → capacityOutside (capacityAt s t 2) ≡ false → CapacitiesInRange (capacitiesAt s t)
       all-in a b c =
-          let x = inside (capacityAt s t 0) 10000 a in
-          let y = inside (capacityAt s t 1) 10000 b in
-          let z = inside (capacityAt s t 2) 10000 c in
+          let x = inside (capacityAt s t 0) capacityLimit a in
+          let y = inside (capacityAt s t 1) capacityLimit b in
+          let z = inside (capacityAt s t 2) capacityLimit c in
           record { n-least = x .0; n-most = x .1; y-least = y .0; y-most = y .1; z-least = z .0; z-most = z .1 }

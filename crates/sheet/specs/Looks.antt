@@ -1,15 +1,16 @@
 -- 01, 'A sheet and its seven fields': tags 06 and 07 answer the extremes and the utilisation, and change nothing.
-use Prim.Native.Nat.{ℕ, _*_}
+use Prim.Native.Nat.{ℕ}
 use mathlib.Core.List.{List}
 use mathlib.Core.Bool.{cond}
-use lib.ListN.{take, drop}
-use lib.Dec.{ltb, eqb}
+use lib.Dec.{eqb}
 use lib.IntN.{ℤ}
 use Rattle.standard.specs.declared.Capacities.{Capacities}
 use Rattle.envelope.specs.declared.Extremes as extremes
 use Rattle.envelope.specs.declared.Utilised.{Utilised}
 use Rattle.envelope.specs.Range.{effectOf}
 use Rattle.envelope.specs.Envelope.{extremesOf, utilisedOf}
+use Rattle.refusals.specs.Refusals.{dueExtremes, dueUtilisationAt}
+use Rattle.effects.specs.Effects.{stationIn}
 use Rattle.sheet.specs.declared.Sheet.{Sheet}
 use Rattle.sheet.specs.declared.Answer.{Answer}
 use Rattle.sheet.specs.declared.Answer.the-variants as answer
@@ -19,7 +20,7 @@ use Rattle.sheet.specs.Sheet.{kindAt, capacityAt}
 
 -- the effects of a station, three of each case
 unfoldable pub stationEffects : Sheet → ℕ → List ℤ
-stationEffects s station = take 96 (drop (station * 96) (s .effects))
+stationEffects s station = stationIn (s .effects) station
 
 unfoldable pub capacitiesAt : Sheet → ℕ → Capacities
 capacitiesAt s station = record { n = capacityAt s station 0; y = capacityAt s station 1; z = capacityAt s station 2 }
@@ -31,14 +32,7 @@ extremesAt s station j = extremesOf (s .settings) (kindAt s) (λ k. effectOf (st
 unfoldable pub utilisationAt : Sheet → ℕ → Utilised
 utilisationAt s station = utilisedOf (s .settings) (kindAt s) (effectOf (stationEffects s station)) (capacitiesAt s station)
 
--- 01, 'Answer fields': 6, then 8 (tag 06) or 13 (tag 07)
-unfoldable pub dueExtremes : ℕ → ℕ → ℕ
-dueExtremes station component = cond (ltb 15 station) 6 (cond (ltb 2 component) 8 0)
-
--- held is the station's first capacity: it has all three or none
-unfoldable pub dueUtilisationAt : ℕ → ℕ → ℕ
-dueUtilisationAt held station = cond (ltb 15 station) 6 (cond (eqb held 0) 13 0)
-
+-- tag 07, whose refusals look at the station's capacities
 abbrev pub dueUtilisation : Sheet → ℕ → ℕ
 dueUtilisation s station = dueUtilisationAt (capacityAt s station 0) station
 

@@ -1,27 +1,39 @@
 // The sheet: settings, 32 case places and 16 stations, and the edits of tags 01 to 05.
 ghost use mathlib.Core.Path.{_≡_};
-ghost use lib.ListN.{length, getD, set};
+ghost use lib.ListN.{getD, set};
 ghost use lib.Seq.{sets};
 ghost use lib.IntN.{ℤ};
 ghost use mathlib.Core.List.{List, [], _∷_};
-ghost use mathlib.Core.Bool.{cond};
-ghost use Prim.Native.Nat.{_+_, _*_, _<_};
+ghost use Prim.Native.Nat.{_*_, _<_};
 ghost use Rattle.wire.specs.Bytes.{signed16};
-ghost use Rattle.sheet.specs.Sheet.{zeros, fresh, cleared, withKind, withEffects, withCapacities, capacityAt};
+ghost use Rattle.standard.specs.Combination.{caseCount};
+ghost use Rattle.standard.specs.Rows.{settingsOf};
+ghost use Rattle.envelope.specs.Range.{stationCount, componentCount};
+ghost use Rattle.refusals.specs.Refusals.{dueSettings, dueCapacities, dueExtremes};
+ghost use Rattle.effects.specs.Effects.{effectCount, zeros};
+ghost use Rattle.sheet.specs.Sheet.{fresh, withKind, withEffects, withCapacities};
 ghost use Rattle.sheet.specs.Range.{InRange};
-ghost use Rattle.sheet.specs.Looks.{extremesAt, utilisationAt, unlessDue, edited, dueExtremes, dueUtilisation, dueUtilisationAt, lookedExtremes, lookedUtilisation};
+ghost use Rattle.sheet.specs.Looks.{extremesAt, utilisationAt, unlessDue, edited, dueUtilisation, lookedExtremes, lookedUtilisation};
 ghost use Rattle.sheet.specs.Parts.{restOf, whole, wholeOf};
-ghost use Rattle.sheet.specs.Edits.{effectOutside, capacityOutside, kindOutside, methodOutside, dueSettings, dueFill, dueFillAt, dueEffects, dueEffectsAt, dueEmpty, dueEmptyAt, dueCapacities, tried};
+ghost use Rattle.sheet.specs.Edits.{dueFill, dueEffects, dueEmpty, tried};
+use effects::COMPONENTS;
+use effects::EFFECTS;
+use effects::Effects;
+use effects::STATION_EFFECTS;
+use effects::STATIONS;
 use envelope::Extremes;
 use envelope::Utilised;
+use standard::CASES;
 use standard::Capacities;
 use standard::Settings;
 
+const CAPACITIES: usize = STATIONS * COMPONENTS;
+
 pub struct Sheet {
     pub settings: Settings,
-    pub kinds: [u8; 32],
-    pub effects: [i16; 1536],
-    pub capacities: [u16; 48],
+    pub kinds: [u8; CASES],
+    pub effects: Effects,
+    pub capacities: [u16; CAPACITIES],
 }
 
 // What reading a field answers.
@@ -47,8 +59,8 @@ pub struct Edited {
 // A sheet apart from its effects: the fields that work on it are lent those, and copy none.
 pub struct Rest {
     pub settings: Settings,
-    pub kinds: [u8; 32],
-    pub capacities: [u16; 48],
+    pub kinds: [u8; CASES],
+    pub capacities: [u16; CAPACITIES],
 }
 
 // An answer with the rest beside it.
@@ -57,107 +69,15 @@ pub struct AnsweredRest {
     pub rest: Rest,
 }
 
-fn effect_outside(raw: u16) -> bool
-    ensures { λ r. ⌜ r ≡ effectOutside raw ⌝ }
-{
-    if raw <= 10000 {
-        return false;
-    }
-    raw < 55536
-}
-
-fn capacity_outside(n: u16) -> bool
-    ensures { λ r. ⌜ r ≡ capacityOutside n ⌝ }
-{
-    n == 0 || 10000 < n
-}
-
-fn kind_outside(n: u8) -> bool
-    ensures { λ r. ⌜ r ≡ kindOutside n ⌝ }
-{
-    n == 0 || 11 < n
-}
-
-fn method_outside(n: u8) -> bool
-    ensures { λ r. ⌜ r ≡ methodOutside n ⌝ }
-{
-    n == 0 || 2 < n
-}
-
-// One step of a chain of refusals: the number where the test holds, else what the rest of the chain says.
-pub fn first(test: bool, number: u8, rest: u8) -> u8
-    ensures { λ r. ⌜ r ≡ cond test number rest ⌝ }
-{
-    if test { number } else { rest }
-}
-
-fn due_settings(method: u8, live: u8, zone: u8) -> u8
-    ensures { λ r. ⌜ r ≡ dueSettings method live zone ⌝ }
-{
-    let d = first(2 < zone, 4, 0);
-    let d = first(1 < live, 4, d);
-    first(method_outside(method), 4, d)
-}
-
-fn due_fill(case: u8, kind: u8, held: u8) -> u8
-    ensures { λ r. ⌜ r ≡ dueFillAt held case kind ⌝ }
-{
-    let d = first(held == 0, 0, 11);
-    let d = first(kind_outside(kind), 7, d);
-    first(31 < case, 5, d)
-}
-
-fn due_effects(case: u8, station: u8, n: u16, y: u16, z: u16, held: u8) -> u8
-    ensures { λ r. ⌜ r ≡ dueEffectsAt held case station n y z ⌝ }
-{
-    let d = first(held == 0, 12, 0);
-    let d = first(effect_outside(z), 9, d);
-    let d = first(effect_outside(y), 9, d);
-    let d = first(effect_outside(n), 9, d);
-    let d = first(15 < station, 6, d);
-    first(31 < case, 5, d)
-}
-
-fn due_empty(case: u8, held: u8) -> u8
-    ensures { λ r. ⌜ r ≡ dueEmptyAt held case ⌝ }
-{
-    let d = first(held == 0, 12, 0);
-    first(31 < case, 5, d)
-}
-
-fn due_capacities(station: u8, n: u16, y: u16, z: u16) -> u8
-    ensures { λ r. ⌜ r ≡ dueCapacities station n y z ⌝ }
-{
-    let d = first(capacity_outside(z), 10, 0);
-    let d = first(capacity_outside(y), 10, d);
-    let d = first(capacity_outside(n), 10, d);
-    first(15 < station, 6, d)
-}
-
-// Sets a case's effects to 0 at every station.
-fn clear_case(effects: &mut [i16; 1536], case: usize)
-    requires { ⌜ case < 32 ⌝ }
-    ensures { λ _. ⌜ now (effects .exit) ≡ cleared (now (effects .entry)) case 16 ⌝ }
-{
-    let mut t: usize = 0;
-    while t < 16 {
-        let at = t * 96 + case * 3;
-        effects[at] = 0;
-        effects[at + 1] = 0;
-        effects[at + 2] = 0;
-        t += 1;
-    }
-}
-
 impl Sheet {
     pub fn fresh(settings: Settings) -> Sheet
         ensures { λ r. ⌜ r ≡ fresh settings ⌝ }
     {
         Sheet {
             settings,
-            kinds: [0u8; 32],
-            effects: [0i16; 1536],
-            capacities: [0u16; 48],
+            kinds: [0u8; CASES],
+            effects: [0i16; EFFECTS],
+            capacities: [0u16; CAPACITIES],
         }
     }
 
@@ -178,7 +98,7 @@ impl Sheet {
     // Tag 01.
     pub fn restart(self, method: u8, live: u8, zone: u8) -> Answered
         requires { ⌜ InRange self ⌝ }
-        ensures { λ r. ⌜ r ≡ edited (tried (dueSettings method live zone) self (fresh (record { method = method; live = live; zone = zone }))) ⌝ }
+        ensures { λ r. ⌜ r ≡ edited (tried (dueSettings method live zone) self (fresh (settingsOf method live zone))) ⌝ }
     {
         let mut effects = self.effects;
         let r = self.rest().restart(&mut effects, method, live, zone);
@@ -249,21 +169,6 @@ impl Sheet {
     }
 }
 
-fn due_extremes(station: u8, component: u8) -> u8
-    ensures { λ r. ⌜ r ≡ dueExtremes station component ⌝ }
-{
-    let d = first(2 < component, 8, 0);
-    first(15 < station, 6, d)
-}
-
-// `held` is the station's first capacity, 0 where it has none.
-fn due_utilisation(station: u8, held: u16) -> u8
-    ensures { λ r. ⌜ r ≡ dueUtilisationAt held station ⌝ }
-{
-    let due = first(held == 0, 13, 0);
-    first(15 < station, 6, due)
-}
-
 // The number at a position of a list of numbers, 0 past its end.
 fn number_at(s: &[u16], at: usize) -> u16
     ensures { λ r. ⌜ r ≡ getD (now (s .entry)) at 0 ⌝ }
@@ -274,31 +179,9 @@ fn number_at(s: &[u16], at: usize) -> u16
     0
 }
 
-// Replaces three effects.
-fn put_effects(effects: &mut [i16; 1536], at: usize, n: i16, y: i16, z: i16)
-    requires { ⌜ at + 2 < 1536 ⌝ }
-    ensures { λ _. ⌜ now (effects .exit) ≡ sets (now (effects .entry)) at (n ∷ y ∷ z ∷ []) ⌝ }
-{
-    effects[at] = n;
-    effects[at + 1] = y;
-    effects[at + 2] = z;
-}
-
-// Sets all effects to 0.
-fn clear_all(effects: &mut [i16; 1536])
-    requires { ⌜ length (now effects) ≡ 1536 ⌝ }
-    ensures { λ _. ⌜ now (effects .exit) ≡ zeros 1536 ⌝ }
-{
-    let mut i: usize = 0;
-    while i < 1536 {
-        effects[i] = 0;
-        i += 1;
-    }
-}
-
 impl AnsweredRest {
     // The answer with the whole sheet beside it.
-    fn with_effects(self, effects: [i16; 1536]) -> Answered
+    fn with_effects(self, effects: Effects) -> Answered
         ensures { λ r. ⌜ r ≡ wholeOf self effects ⌝ }
     {
         let answer = self.answer;
@@ -311,8 +194,19 @@ impl AnsweredRest {
 }
 
 impl Rest {
+    // A fresh sheet apart from its effects.
+    pub fn fresh(settings: Settings) -> Rest
+        ensures { λ r. ⌜ whole r (zeros effectCount) ≡ fresh settings ⌝ }
+    {
+        Rest {
+            settings,
+            kinds: [0u8; CASES],
+            capacities: [0u16; CAPACITIES],
+        }
+    }
+
     // The whole sheet.
-    pub fn with_effects(self, effects: [i16; 1536]) -> Sheet
+    pub fn with_effects(self, effects: Effects) -> Sheet
         ensures { λ r. ⌜ r ≡ whole self effects ⌝ }
     {
         let settings = self.settings;
@@ -327,7 +221,7 @@ impl Rest {
     }
 
     fn with_kind(self, case: usize, kind: u8) -> Rest
-        requires { ⌜ case < 32 ⌝ }
+        requires { ⌜ case < caseCount ⌝ }
         ensures { λ r. ⌜ r ≡ record { settings = self .settings; kinds = set (self .kinds) case kind; capacities = self .capacities } ⌝ }
     {
         let mut r = self;
@@ -336,11 +230,11 @@ impl Rest {
     }
 
     fn with_capacities(self, station: usize, n: u16, y: u16, z: u16) -> Rest
-        requires { ⌜ station < 16 ⌝ }
-        ensures { λ r. ⌜ r ≡ record { settings = self .settings; kinds = self .kinds; capacities = sets (self .capacities) (station * 3) (n ∷ y ∷ z ∷ []) } ⌝ }
+        requires { ⌜ station < stationCount ⌝ }
+        ensures { λ r. ⌜ r ≡ record { settings = self .settings; kinds = self .kinds; capacities = sets (self .capacities) (station * componentCount) (n ∷ y ∷ z ∷ []) } ⌝ }
     {
         let mut r = self;
-        let at = station * 3;
+        let at = station * COMPONENTS;
         r.capacities[at] = n;
         r.capacities[at + 1] = y;
         r.capacities[at + 2] = z;
@@ -348,19 +242,14 @@ impl Rest {
     }
 
     // Tag 01.
-    pub fn restart(self, effects: &mut [i16; 1536], method: u8, live: u8, zone: u8) -> AnsweredRest
+    pub fn restart(self, effects: &mut Effects, method: u8, live: u8, zone: u8) -> AnsweredRest
         requires { ⌜ InRange (whole self (now effects)) ⌝ }
-        ensures { λ r. ⌜ wholeOf r (now (effects .exit)) ≡ edited (tried (dueSettings method live zone) (whole self (now (effects .entry))) (fresh (record { method = method; live = live; zone = zone }))) ⌝ }
+        ensures { λ r. ⌜ wholeOf r (now (effects .exit)) ≡ edited (tried (dueSettings method live zone) (whole self (now (effects .entry))) (fresh (settingsOf method live zone))) ⌝ }
     {
-        let due = due_settings(method, live, zone);
+        let due = refusals::due_settings(method, live, zone);
         if due == 0 {
-            clear_all(effects);
-            let settings = Settings { method, live, zone };
-            let rest = Rest {
-                settings,
-                kinds: [0u8; 32],
-                capacities: [0u16; 48],
-            };
+            effects::clear_all(effects);
+            let rest = Rest::fresh(Settings::of(method, live, zone));
             return AnsweredRest {
                 answer: Answer::Accepted,
                 rest,
@@ -373,15 +262,15 @@ impl Rest {
     }
 
     // Tag 02.
-    pub fn fill(self, effects: &mut [i16; 1536], case: u8, kind: u8) -> AnsweredRest
+    pub fn fill(self, effects: &mut Effects, case: u8, kind: u8) -> AnsweredRest
         ensures { λ r. ⌜ wholeOf r (now (effects .exit)) ≡ edited (tried (dueFill (whole self (now (effects .entry))) case kind) (whole self (now (effects .entry))) (withKind (whole self (now (effects .entry))) case kind)) ⌝ }
     {
         let k = case as usize;
         let held = wire::byte(&self.kinds, k);
-        let due = due_fill(case, kind, held);
+        let due = refusals::due_fill(case, kind, held);
         if due == 0 {
             let rest = self.with_kind(k, kind);
-            clear_case(effects, k);
+            effects::clear_case(effects, k);
             return AnsweredRest {
                 answer: Answer::Accepted,
                 rest,
@@ -396,7 +285,7 @@ impl Rest {
     // Tag 03.
     pub fn replace_effects(
         self,
-        effects: &mut [i16; 1536],
+        effects: &mut Effects,
         case: u8,
         station: u8,
         n: u16,
@@ -407,11 +296,11 @@ impl Rest {
     {
         let k = case as usize;
         let held = wire::byte(&self.kinds, k);
-        let due = due_effects(case, station, n, y, z, held);
+        let due = refusals::due_effects(case, station, n, y, z, held);
         if due == 0 {
             let t = station as usize;
-            let at = t * 96 + k * 3;
-            put_effects(
+            let at = t * STATION_EFFECTS + k * COMPONENTS;
+            effects::put_effects(
                 effects,
                 at,
                 wire::signed(n),
@@ -430,15 +319,15 @@ impl Rest {
     }
 
     // Tag 04.
-    pub fn empty(self, effects: &mut [i16; 1536], case: u8) -> AnsweredRest
+    pub fn empty(self, effects: &mut Effects, case: u8) -> AnsweredRest
         ensures { λ r. ⌜ wholeOf r (now (effects .exit)) ≡ edited (tried (dueEmpty (whole self (now (effects .entry))) case) (whole self (now (effects .entry))) (withKind (whole self (now (effects .entry))) case 0)) ⌝ }
     {
         let k = case as usize;
         let held = wire::byte(&self.kinds, k);
-        let due = due_empty(case, held);
+        let due = refusals::due_empty(case, held);
         if due == 0 {
             let rest = self.with_kind(k, 0);
-            clear_case(effects, k);
+            effects::clear_case(effects, k);
             return AnsweredRest {
                 answer: Answer::Accepted,
                 rest,
@@ -454,7 +343,7 @@ impl Rest {
     pub fn replace_capacities(self, station: u8, n: u16, y: u16, z: u16) -> AnsweredRest
         ensures { λ r. ⌜ ((effects : List ℤ) → wholeOf r effects ≡ edited (tried (dueCapacities station n y z) (whole self effects) (withCapacities (whole self effects) station n y z))) ⌝ }
     {
-        let due = due_capacities(station, n, y, z);
+        let due = refusals::due_capacities(station, n, y, z);
         if due == 0 {
             let rest = self.with_capacities(station as usize, n, y, z);
             return AnsweredRest {
@@ -473,12 +362,12 @@ impl Rest {
         requires { ⌜ InRange (whole self (now effects)) ⌝ }
         ensures { λ r. ⌜ r ≡ unlessDue (dueExtremes station component) (Answer.Extremes (extremesAt (whole self (now (effects .entry))) station component)) ⌝ }
     {
-        let due = due_extremes(station, component);
+        let due = refusals::due_extremes(station, component);
         if due == 0 {
             let kinds = self.kinds;
             let t = station as usize;
-            let from = t * 96;
-            let to = from + 96;
+            let from = t * STATION_EFFECTS;
+            let to = from + STATION_EFFECTS;
             let x = station::extremes_of(
                 self.settings,
                 &kinds,
@@ -498,12 +387,12 @@ impl Rest {
         let kinds = self.kinds;
         let capacities = self.capacities;
         let t = station as usize;
-        let at = t * 3;
+        let at = t * COMPONENTS;
         let n = number_at(&capacities, at);
-        let due = due_utilisation(station, n);
+        let due = refusals::due_utilisation(station, n);
         if due == 0 {
-            let from = t * 96;
-            let to = from + 96;
+            let from = t * STATION_EFFECTS;
+            let to = from + STATION_EFFECTS;
             let p = Capacities {
                 n: capacities[at],
                 y: capacities[at + 1],

@@ -1,13 +1,14 @@
 -- Facts of every row, kind and setting, each by one test that antt computes over the whole list of lines or of classes.
 -- Assumes nothing.
 use mathlib.Core.List.{List, [], _∷_, _++_, map}
-use mathlib.Core.Path.{_≡_, refl, ap, _∙_, subst}
-use mathlib.Core.Bool.{Bool, true, false, cond, _&&_, _||_}
+use mathlib.Core.Path.{_≡_, refl, sym, ap, _∙_, subst}
+use mathlib.Core.Bool.{Bool, true, false, false≢true, cond, _&&_, _||_}
 use mathlib.Core.Logic.{_⊎_, inl, inr}
-use Prim.Native.Nat.{ℕ, zero, suc, _≤_, _<_}
+use Prim.Native.Nat.{ℕ, zero, suc, _-_, _≤_, _<_}
+use native.Mathlib.Decide.{decLt}
 use native.Mathlib.Omega.{arith}
 use lib.Dec.{T, eqb, leb, ltb, leb→le, ltb→lt, eqb→eq}
-use lib.ListN.{getD}
+use lib.ListN.{length, getD, List·getD-eq-default}
 use Rattle.integers.specs.Sums.{sum, maskOf}
 use Rattle.integers.specs.Sets.{has}
 use Rattle.integers.proofs.Masks.{bit-in-mask}
@@ -15,10 +16,10 @@ use Rattle.integers.proofs.Tests.{and-left, and-right, and-both, or-cases}
 use Rattle.standard.specs.declared.Settings.{Settings}
 use Rattle.standard.specs.declared.Class.{Class}
 use Rattle.standard.specs.declared.Class.the-variants.{Always, Subset, OneOf, Unknown}
-use Rattle.standard.specs.Kinds.{classes, classOf, kindCount, groupCount, permanentEarth}
+use Rattle.standard.specs.Kinds.{classes, classOf, unknown, kindCount, groupCount, permanentEarth}
 use Rattle.standard.specs.Rows.{Live, num, f, Line, blank, lines, liveFactor, roofFactor, snowFactor, columns, rowCount, factorOf, lowOf, Span, rowsTo, plainRows, byZone, floodRows, openRows, within, inSpans}
 use Rattle.standard.specs.Columns.{factoredKinds, kindsIn}
-use Rattle.standard.proofs.Table.{same-at, all, all-at, all₂, all₂-at}
+use Rattle.standard.proofs.Table.{tabulate, same-at, all, all-at, all₂, all₂-at}
 
 -- no factor of the line is above 2000
 small : Bool → Line → Bool
@@ -75,6 +76,28 @@ unknown-none s r k e =
     eqb→eq _ _
     (subst (λ (c : Class). T (unknown-test c (factorOf s r k))) e
     (all₂-at unknown-test classes (columns (eqb (s .live) 1) (getD lines r blank)) Unknown 0 tt tt k))
+
+-- the kinds are the numbers from 1 on that have a class
+known-table : tabulate (λ k. unknown (classOf k)) 1 (kindCount - 1) ≡ tabulate (λ k. false) 1 (kindCount - 1)
+unfolding classOf
+known-table = refl
+
+pub kind-known : (k : ℕ) → 0 < k → k < kindCount → unknown (classOf k) ≡ false
+kind-known k p l = same-at (λ j. unknown (classOf j)) (λ j. false) 1 (kindCount - 1) k known-table p l
+
+pub known-kind : (k : ℕ) → unknown (classOf k) ≡ false → (0 < k) × (k < kindCount)
+unfolding classOf
+known-kind k e = (some k e, go (decLt k kindCount))
+  where
+    some : (n : ℕ) → unknown (classOf n) ≡ false → 0 < n
+    some zero q = absurd (false≢true (sym q))
+    some (suc n) q = omega arith
+
+    go : Dec (k < kindCount) → k < kindCount
+    go (yes l) = l
+    go (no l) =
+        let past : length classes ≤ k = omega arith in
+        absurd (false≢true (sym e ∙ ap unknown (List·getD-eq-default classes Unknown past)))
 
 -- a group is one of the groups
 group-test : Class → Bool

@@ -1,5 +1,6 @@
 -- Kinds of load, and how the cases of a kind may act.
 use Prim.Native.Nat.{ℕ}
+use mathlib.Core.Bool.{Bool, true, false}
 use mathlib.Core.List.{List, [], _∷_}
 use lib.ListN.{getD}
 use Rattle.standard.specs.declared.Class.{Class}
@@ -19,6 +20,13 @@ classes =
 
 unfoldable pub classOf : ℕ → Class
 classOf kind = getD classes kind Unknown
+
+-- a number that is no kind has no class
+abbrev pub unknown : Class → Bool
+unknown Always = false
+unknown Subset = false
+unknown (OneOf g) = false
+unknown Unknown = true
 
 -- the numbers of groups and of kinds, the empty place among them
 abbrev pub groupCount : ℕ

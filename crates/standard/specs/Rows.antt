@@ -6,6 +6,13 @@ use lib.Dec.{eqb, leb}
 use lib.ListN.{getD, replicate}
 use Rattle.standard.specs.declared.Settings.{Settings}
 
+-- a sheet's settings; those of a fresh sheet are method 1, live option 0, zone 0
+abbrev pub settingsOf : (method live zone : ℕ) → Settings
+settingsOf method live zone = record { method = method; live = live; zone = zone }
+
+abbrev pub freshSettings : Settings
+freshSettings = settingsOf 1 0 0
+
 -- the column L: a number, or f, which is 1000, or 500 with live option 1
 pub data Live : Type 0 where
   num : ℕ → Live

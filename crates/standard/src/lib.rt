@@ -2,7 +2,7 @@ ghost use mathlib.Core.Path.{_≡_};
 ghost use mathlib.Core.Bool.{false};
 ghost use Prim.Native.Nat.{_<_};
 ghost use Rattle.standard.specs.Kinds.{classOf, kindCount};
-ghost use Rattle.standard.specs.Rows.{rowCount, factorOf, lowOf};
+ghost use Rattle.standard.specs.Rows.{rowCount, settingsOf, freshSettings, factorOf, lowOf};
 ghost use Rattle.standard.specs.Columns.{columnOf, rowTable, kindsIn};
 
 // Kinds are numbered from 1, so that 0 is an empty place; rows are numbered as in docs/FIELDS.md.
@@ -19,6 +19,21 @@ pub struct Settings {
     pub method: u8,
     pub live: u8,
     pub zone: u8,
+}
+
+impl Settings {
+    pub fn of(method: u8, live: u8, zone: u8) -> Settings
+        ensures { λ r. ⌜ r ≡ settingsOf method live zone ⌝ }
+    {
+        Settings { method, live, zone }
+    }
+
+    // Those of a fresh sheet.
+    pub fn fresh() -> Settings
+        ensures { λ r. ⌜ r ≡ freshSettings ⌝ }
+    {
+        Settings::of(1, 0, 0)
+    }
 }
 
 // How the cases of a kind may act: all of them, any subset, at most one of a group of kinds.

@@ -3,8 +3,9 @@
 use Prim.Native.Nat.{_≤_}
 use mathlib.Core.Path.{_≡_, refl}
 use lib.ListN.{length}
-use Rattle.sheet.specs.Edits.{dueSettings}
-use Rattle.sheet.specs.Sheet.{zeros, fresh}
+use Rattle.refusals.specs.Refusals.{dueSettings}
+use Rattle.effects.specs.Effects.{zeros}
+use Rattle.sheet.specs.Sheet.{fresh}
 use Rattle.sheet.specs.Parts.{whole}
 use Rattle.sheet.specs.Range.{InRange}
 use Rattle.sheet.proofs.Kept.{fresh-in-range}

@@ -1,7 +1,7 @@
 -- `frames_c::frames_answer` meets its contract.
 -- Assumes nothing.
 use mathlib.Core.Path.{refl, sym, _∙_}
-use Rattle.sheet.specs.Sheet.{zeros}
+use Rattle.effects.specs.Effects.{zeros}
 use Rattle.frames_c.proofs.Calls.{roomy, answer-due, answer-room, answer-refused, answer-done}
 use borrow.Author.Needs.{needs}
 use Rattle.frames_c.proofs.frames_answer.Statement.{statement}

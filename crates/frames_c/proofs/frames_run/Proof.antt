@@ -1,7 +1,7 @@
 -- `frames_c::frames_run` meets its contract.
 -- Assumes nothing.
 use mathlib.Core.Path.{refl, sym, _∙_}
-use Rattle.sheet.specs.Sheet.{zeros}
+use Rattle.effects.specs.Effects.{zeros}
 use Rattle.frames_c.proofs.Calls.{roomy, run-due-is, answer-room, run-due, run-refused, run-done}
 use borrow.Author.Needs.{needs}
 use Rattle.frames_c.proofs.frames_run.Statement.{statement}

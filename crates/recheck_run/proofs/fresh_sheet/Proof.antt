@@ -2,7 +2,7 @@
 -- Assumes nothing.
 use mathlib.Core.Path.{refl}
 use borrow.Author.Needs.{needs}
-use Rattle.sheet.specs.Edits.{dueSettings}
+use Rattle.refusals.specs.Refusals.{dueSettings}
 use Rattle.sheet.proofs.Kept.{fresh-in-range}
 use Rattle.recheck_run.proofs.fresh_sheet.Statement.{statement}
 use Rattle.recheck_run.proofs.fresh_sheet.Tie as tie

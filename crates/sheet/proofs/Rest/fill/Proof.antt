@@ -2,7 +2,7 @@
 -- Assumes nothing.
 use mathlib.Core.Path.{sym, _∙_}
 use Rattle.sheet.specs.Sheet.{withKind}
-use Rattle.sheet.proofs.Refusals.{fill-range}
+use Rattle.refusals.proofs.Fits.{fill-range}
 use Rattle.sheet.proofs.Parts.{part-none, part-due}
 use borrow.Author.Needs.{needs}
 use Rattle.sheet.proofs.Rest.fill.Statement.{statement}

@@ -7,9 +7,11 @@ use lib.IntN.{ℤ}
 use Rattle.envelope.specs.Range.{kindOf, effectOf, StationInRange}
 use Rattle.envelope.specs.Envelope.{extremesOf}
 use Rattle.sheet.specs.declared.Answer.the-variants as answer
-use Rattle.sheet.specs.Looks.{extremesAt, dueExtremes}
+use Rattle.sheet.specs.Looks.{extremesAt}
+use Rattle.refusals.specs.Refusals.{dueExtremes}
 use Rattle.sheet.specs.Parts.{whole}
-use Rattle.sheet.proofs.Refusals.{extremes-range, answered-none, answered-due}
+use Rattle.refusals.proofs.Fits.{extremes-range}
+use Rattle.sheet.proofs.Refusals.{answered-none, answered-due}
 use Rattle.sheet.proofs.Stations.{station-in-range, part-is}
 use borrow.Author.Needs.{needs}
 use Rattle.sheet.proofs.Rest.look_extremes.Statement.{statement}

@@ -9,9 +9,11 @@ use Rattle.envelope.specs.Range.{kindOf, effectOf, StationInRange, CapacitiesIn
 use Rattle.envelope.specs.Envelope.{utilisedOf}
 use Rattle.sheet.specs.declared.Answer.the-variants as answer
 use Rattle.sheet.specs.Sheet.{capacityAt}
-use Rattle.sheet.specs.Looks.{utilisationAt, dueUtilisation, dueUtilisationAt}
+use Rattle.sheet.specs.Looks.{utilisationAt, dueUtilisation}
+use Rattle.refusals.specs.Refusals.{dueUtilisationAt}
 use Rattle.sheet.specs.Parts.{whole}
-use Rattle.sheet.proofs.Refusals.{utilisation-range, answered-none, answered-due}
+use Rattle.refusals.proofs.Fits.{utilisation-range}
+use Rattle.sheet.proofs.Refusals.{answered-none, answered-due}
 use Rattle.sheet.proofs.Stations.{station-in-range, part-is, capacities-in-range, capacities-read}
 use borrow.Author.Needs.{needs}
 use Rattle.sheet.proofs.Rest.look_utilisation.Statement.{statement}

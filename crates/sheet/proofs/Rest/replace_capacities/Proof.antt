@@ -2,7 +2,7 @@
 -- Assumes nothing.
 use mathlib.Core.Path.{sym, _∙_}
 use Rattle.sheet.specs.Sheet.{withCapacities}
-use Rattle.sheet.proofs.Refusals.{capacities-range}
+use Rattle.refusals.proofs.Fits.{capacities-range}
 use Rattle.sheet.proofs.Parts.{part-none, part-due}
 use borrow.Author.Needs.{needs}
 use Rattle.sheet.proofs.Rest.replace_capacities.Statement.{statement}

@@ -5,7 +5,7 @@ use mathlib.Core.Path.{sym, _∙_}
 use native.Mathlib.Omega.{arith}
 use Rattle.wire.proofs.Complement.{read-back}
 use Rattle.sheet.specs.Sheet.{withEffects}
-use Rattle.sheet.proofs.Refusals.{effects-range}
+use Rattle.refusals.proofs.Fits.{effects-range}
 use Rattle.sheet.proofs.Parts.{part-none, part-due}
 use borrow.Author.Needs.{needs}
 use Rattle.sheet.proofs.Rest.replace_effects.Statement.{statement}

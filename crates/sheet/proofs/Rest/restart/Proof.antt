@@ -1,6 +1,6 @@
 -- `sheet::Rest::restart` meets its contract: the edit where no refusal is due, else all as it was.
 -- Assumes nothing.
-use mathlib.Core.Path.{sym, _∙_}
+use mathlib.Core.Path.{sym, ap, _∙_}
 use Rattle.sheet.specs.Sheet.{fresh}
 use Rattle.sheet.proofs.Parts.{part-none, part-due}
 use borrow.Author.Needs.{needs}
@@ -13,12 +13,20 @@ due-settings-requires c κs = search needs
 clear-all-requires : tie.Need-clear-all-requires
 clear-all-requires c κs = search needs
 
+of-requires : tie.Need-of-requires
+of-requires c κs = search needs
+
+fresh-requires : tie.Need-fresh-requires
+fresh-requires c κs = search needs
+
 returns : tie.Need-returns
-unfolding fresh
-returns c = part-none _ _ _ (sym (c .before .before .before .due-settings .ensures) ∙ c .before .before .if1 .taken) (rw (c .clear-all .ensures))
+returns c =
+    let z = c .before .before in
+    part-none _ _ _ (sym (z .before .before .before .due-settings .ensures) ∙ z .before .before .if1 .taken)
+    (rw (z .clear-all .ensures) (c .fresh .ensures ∙ ap fresh (c .before .of .ensures)))
 
 returns-2 : tie.Need-returns-2
 returns-2 c = part-due _ _ _ (c .before .due-settings .ensures) (c .if1 .left)
 
 pub restart-spec : {M : Type 1} → statement M
-restart-spec = tie.close (tie.spec due-settings-requires clear-all-requires returns returns-2)
+restart-spec = tie.close (tie.spec due-settings-requires clear-all-requires of-requires fresh-requires returns returns-2)
