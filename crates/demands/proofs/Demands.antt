@@ -29,7 +29,8 @@ use Rattle.sheet.proofs.Kept.{fresh-in-range}
 use Rattle.refusals.proofs.Fits.{settings-range}
 use Rattle.sheet.proofs.Stations.{effect-seen}
 use Rattle.fields.specs.declared.Reading.{Reading}
-use Rattle.fields.specs.Field.{lengthOf, dueHeader, runOf, fieldOf, readField}
+use Rattle.headers.specs.Headers.{lengthOf, dueHeader}
+use Rattle.fields.specs.Field.{runOf, fieldOf, readField}
 use Rattle.fields.proofs.Kept.{read-kept}
 use Rattle.fields.proofs.Refused.{refused-unchanged}
 use Rattle.fields.proofs.Within.{within}

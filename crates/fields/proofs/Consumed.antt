@@ -7,10 +7,10 @@ use native.Mathlib.Omega.{arith}
 use borrow.Author.Tests.{le-ltb}
 use lib.ListN.{length}
 use Rattle.sheet.specs.declared.Sheet.{Sheet}
-use Rattle.fields.specs.declared.Header.{Header}
-use Rattle.fields.specs.declared.Header.the-variants.{Field, Short}
-use Rattle.fields.specs.Field.{headerOf, consumedOf, consumedBy, readHeader, readField, answerBytes}
-use Rattle.fields.proofs.Laws.{header-fits}
+use Rattle.headers.specs.declared.Header.{Header}
+use Rattle.headers.specs.declared.Header.the-variants.{Field, Short}
+use Rattle.headers.specs.Headers.{headerOf, consumedOf, consumedBy}
+use Rattle.fields.specs.Field.{readHeader, readField, answerBytes}
 
 header-consumed : (h : Header) (input : List ℕ) (s : Sheet) → readHeader h input s .consumed ≡ consumedOf h input
 unfolding readHeader
@@ -35,17 +35,3 @@ module _ (input : List ℕ) (s : Sheet) where
 
   pub read-written : readField input 37 s .written ≡ length (answerBytes (readField input 37 s .answer))
   read-written = rw (roomy 37 (omega arith)) (header-written (headerOf input) input s)
-
-within-header : (h : Header) (input : List ℕ) → h ≡ headerOf input → consumedOf h input ≤ length input
-within-header Short input e = omega arith
-within-header (Field tag len) input e = header-fits input tag len e refl
-
-some-header : (h : Header) (input : List ℕ) → 0 < length input → 0 < consumedOf h input
-some-header Short input g = g
-some-header (Field tag len) input g = omega arith
-
-pub consumed-within : (input : List ℕ) → consumedBy input ≤ length input
-consumed-within input = within-header (headerOf input) input refl
-
-pub consumed-some : (input : List ℕ) → 0 < length input → 0 < consumedBy input
-consumed-some input g = some-header (headerOf input) input g

@@ -5,6 +5,7 @@ use mathlib.Core.List.{List}
 use lib.ListN.{length, take, drop}
 use lib.Dec.{eqb, ltb}
 use Rattle.wire.specs.Bytes.{byteAt, wordAt, signed16}
+use Rattle.standard.specs.Rows.{settingsOf}
 use Rattle.sheet.specs.declared.Sheet.{Sheet}
 use Rattle.sheet.specs.declared.Answered.{Answered}
 use Rattle.sheet.specs.Sheet.{withKind, withEffects, withCapacities}
@@ -13,10 +14,11 @@ use Rattle.refusals.specs.Refusals.{dueCapacities}
 use Rattle.sheet.specs.Looks.{lookedExtremes, lookedUtilisation}
 use Rattle.sheet.specs.Range.{InRange}
 use Rattle.sheet.proofs.Kept.{tried-kept, restarted, fill-kept, effects-kept, emptied-kept, capacities-kept}
-use Rattle.fields.specs.declared.Header.{Header}
-use Rattle.fields.specs.declared.Header.the-variants.{Field, Short}
+use Rattle.headers.specs.declared.Header.{Header}
+use Rattle.headers.specs.declared.Header.the-variants.{Field, Short}
 use Rattle.fields.specs.declared.Reading.{Reading}
-use Rattle.fields.specs.Field.{headerOf, dueHeader, runOf, fieldOf, readHeader, readField}
+use Rattle.headers.specs.Headers.{headerOf, dueHeader}
+use Rattle.fields.specs.Field.{runOf, fieldOf, readHeader, readField}
 use Rattle.fields.proofs.Laws.{both}
 
 abbrev AnsweredInRange : Answered → Type 0
@@ -25,7 +27,7 @@ AnsweredInRange a = InRange (a .sheet)
 run-kept : (s : Sheet) (tag : ℕ) (b : List ℕ) → InRange s → InRange (runOf s tag b .sheet)
 unfolding runOf lookedExtremes lookedUtilisation
 run-kept s tag b h =
-    both AnsweredInRange (eqb tag 1) (restarted s (record { method = b0; live = b1; zone = byteAt b 2 }) h)
+    both AnsweredInRange (eqb tag 1) (restarted s (settingsOf b0 b1 (byteAt b 2)) h)
     (both AnsweredInRange (eqb tag 2) (tried-kept (dueFill s b0 b1) s (withKind s b0 b1) h (fill-kept s b0 b1 h))
     (both AnsweredInRange (eqb tag 3)
     (tried-kept (dueEffects s b0 b1 (wordAt b 2) (wordAt b 4) (wordAt b 6)) s

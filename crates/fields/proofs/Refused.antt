@@ -11,10 +11,11 @@ use Rattle.sheet.specs.declared.Answered.{Answered}
 use Rattle.sheet.specs.declared.Answer.the-variants.{Accepted}
 use Rattle.sheet.specs.Edits.{tried}
 use Rattle.sheet.specs.Looks.{lookedExtremes, lookedUtilisation, edited}
-use Rattle.fields.specs.declared.Header.{Header}
-use Rattle.fields.specs.declared.Header.the-variants.{Field, Short}
+use Rattle.headers.specs.declared.Header.{Header}
+use Rattle.headers.specs.declared.Header.the-variants.{Field, Short}
 use Rattle.fields.specs.declared.Reading.{Reading}
-use Rattle.fields.specs.Field.{headerOf, dueHeader, runOf, fieldOf, readHeader, readField}
+use Rattle.headers.specs.Headers.{headerOf, dueHeader}
+use Rattle.fields.specs.Field.{runOf, fieldOf, readHeader, readField}
 use Rattle.fields.proofs.Laws.{both}
 
 -- unless it is accepted, the old sheet is handed back

@@ -17,12 +17,14 @@ use Rattle.sheet.specs.declared.Sheet.{Sheet}
 use Rattle.sheet.specs.declared.Answer.{Answer}
 use Rattle.sheet.specs.declared.Answer.the-variants as answer
 use Rattle.sheet.specs.Range.{InRange}
-use Rattle.fields.specs.declared.Header.{Header}
-use Rattle.fields.specs.declared.Header.the-variants.{Field, Short}
+use Rattle.headers.specs.declared.Header.{Header}
+use Rattle.headers.specs.declared.Header.the-variants.{Field, Short}
 use Rattle.fields.specs.declared.Reading.{Reading}
-use Rattle.fields.specs.Field.{headerOf, reading, refusedWith, readHeader, readField, extremeBytes, utilisedBytes, answerBytes}
+use Rattle.headers.specs.Headers.{headerOf}
+use Rattle.fields.specs.Field.{reading, refusedWith, readHeader, readField, extremeBytes, utilisedBytes, answerBytes}
 use Rattle.fields.specs.Readings.{FieldRead, ReadWithin}
-use Rattle.fields.proofs.Laws.{both, header-fits}
+use Rattle.fields.proofs.Laws.{both}
+use Rattle.headers.proofs.Whole.{header-fits}
 use Rattle.fields.proofs.Kept.{read-kept}
 
 -- 37 bytes of output are room for any answer

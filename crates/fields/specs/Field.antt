@@ -6,6 +6,7 @@ use mathlib.Core.Bool.{Bool, true, false, cond}
 use lib.ListN.{length, getD, take, drop}
 use lib.Dec.{ltb, eqb}
 use Rattle.wire.specs.Bytes.{byteAt, wordAt, signed16, bits64, bytes4, bytes8}
+use Rattle.standard.specs.Rows.{settingsOf}
 use Rattle.sheet.specs.declared.Sheet.{Sheet}
 use Rattle.sheet.specs.declared.Answered.{Answered}
 use Rattle.sheet.specs.declared.Answer.{Answer}
@@ -16,32 +17,17 @@ use Rattle.sheet.specs.Looks.{lookedExtremes, lookedUtilisation, edited}
 use Rattle.sheet.specs.Sheet.{fresh, withKind, withEffects, withCapacities}
 use Rattle.refusals.specs.Refusals.{dueSettings, dueCapacities}
 use Rattle.sheet.specs.Edits.{dueFill, dueEffects, dueEmpty, tried}
-use Rattle.fields.specs.declared.Header.{Header}
-use Rattle.fields.specs.declared.Header.the-variants.{Field, Short}
+use Rattle.headers.specs.declared.Header.{Header}
+use Rattle.headers.specs.declared.Header.the-variants.{Field, Short}
+use Rattle.headers.specs.Headers.{headerOf, dueHeader, consumedOf}
 use Rattle.fields.specs.declared.Reading.{Reading}
-
--- one tag byte, a two-byte length and a body that is there; 3 is due where header or body goes past the end, or the length is
--- above 60,000
-unfoldable pub headerOf : List ℕ → Header
-headerOf s =
-    cond (ltb (length s) 3) Short
-    (cond (ltb 60000 (wordAt s 1)) Short
-    (cond (ltb (length s - 3) (wordAt s 1)) Short (Field (byteAt s 0) (wordAt s 1))))
-
--- the length of a body by its tag, from tag 00, which is none
-unfoldable pub lengthOf : ℕ → ℕ
-lengthOf tag = getD (0 ∷ 3 ∷ 2 ∷ 8 ∷ 1 ∷ 7 ∷ 2 ∷ 1 ∷ []) tag 0
-
--- 1 for an unknown tag, then 2 for a length that is not the tag's
-unfoldable pub dueHeader : ℕ → ℕ → ℕ
-dueHeader tag len = cond (eqb tag 0) 1 (cond (ltb 7 tag) 1 (cond (eqb len (lengthOf tag)) 0 2))
 
 -- the table of tags: each body's values in order, the refusals that they call for, and the effect
 unfoldable pub runOf : Sheet → ℕ → List ℕ → Answered
 runOf s tag b =
     cond (eqb tag 1)
     (edited
-    (tried (dueSettings (byteAt b 0) (byteAt b 1) (byteAt b 2)) s (fresh (record { method = byteAt b 0; live = byteAt b 1; zone = byteAt b 2 }))))
+    (tried (dueSettings (byteAt b 0) (byteAt b 1) (byteAt b 2)) s (fresh (settingsOf (byteAt b 0) (byteAt b 1) (byteAt b 2)))))
     (cond (eqb tag 2) (edited (tried (dueFill s (byteAt b 0) (byteAt b 1)) s (withKind s (byteAt b 0) (byteAt b 1))))
     (cond (eqb tag 3)
     (edited
@@ -85,14 +71,6 @@ reading n a = record { answer = a .answer; sheet = a .sheet; consumed = n; writt
 abbrev pub refusedWith : ℕ → Sheet → Answered
 refusedWith n s = record { answer = answer.Refused n; sheet = s }
 
--- 3 consumes all that is left, others the field
-abbrev pub consumedOf : Header → List ℕ → ℕ
-consumedOf Short input = length input
-consumedOf (Field tag len) input = 3 + len
-
-abbrev pub consumedBy : List ℕ → ℕ
-consumedBy input = consumedOf (headerOf input) input
-
 unfoldable pub readHeader : Header → List ℕ → Sheet → Reading
 readHeader Short input s = reading (consumedOf Short input) (refusedWith 3 s)
 readHeader (Field tag len) input s = reading (consumedOf (Field tag len) input) (fieldOf s tag (take len (drop 3 input)))
@@ -100,10 +78,6 @@ readHeader (Field tag len) input s = reading (consumedOf (Field tag len) input) 
 -- 14 comes first: under 37 bytes of output for a field; it consumes nothing
 unfoldable pub readField : List ℕ → ℕ → Sheet → Reading
 readField input room s = cond (ltb room 37) (reading 0 (refusedWith 14 s)) (readHeader (headerOf input) input s)
-
--- what is at hand can be read before more bytes come: a whole field, or a length above 60,000
-unfoldable pub readyOf : List ℕ → Bool
-readyOf s = cond (ltb (length s) 3) false (cond (ltb 60000 (wordAt s 1)) true (cond (ltb (length s - 3) (wordAt s 1)) false true))
 
 -- a service stops after 3
 abbrev pub lastOf : Answer → Bool

@@ -1,6 +1,8 @@
 // Reads one tagged field, edits the sheet and answers.
+use effects::Effects;
 use envelope::Extreme;
 use envelope::Utilised;
+use headers::Header;
 use sheet::Answer;
 use sheet::AnsweredRest;
 use sheet::Rest;
@@ -11,7 +13,7 @@ ghost use lib.ListN.{length, getD, drop};
 ghost use Rattle.wire.specs.Bytes.{over};
 ghost use Rattle.fields.specs.Readings.{FieldRead, ReadWithin, wholeReading};
 ghost use Rattle.sheet.specs.Parts.{whole, wholeOf};
-ghost use Rattle.fields.specs.Field.{readyOf, lastOf, consumedBy, headerOf, lengthOf, dueHeader, runOf, fieldOf, extremeBytes, verdictByte, utilisedBytes, answerBytes};
+ghost use Rattle.fields.specs.Field.{lastOf, runOf, fieldOf, extremeBytes, verdictByte, utilisedBytes, answerBytes};
 ghost use Rattle.sheet.specs.Range.{InRange};
 ghost use lib.Seq.{sets};
 
@@ -28,55 +30,6 @@ pub struct ReadRest {
     pub rest: Rest,
     pub consumed: usize,
     pub written: usize,
-}
-
-// A whole field at the front of the input, or one that goes past its end.
-pub enum Header {
-    Field { tag: u8, len: usize },
-    Short,
-}
-
-fn header_of(input: &[u8]) -> Header
-    ensures { λ r. ⌜ r ≡ headerOf (now (input .entry)) ⌝ }
-{
-    let n = input.len();
-    if n < 3 {
-        return Header::Short;
-    }
-    let tag = wire::byte(input, 0);
-    let len = wire::word(input, 1) as usize;
-    if 60000 < len {
-        return Header::Short;
-    }
-    if n - 3 < len {
-        return Header::Short;
-    }
-    Header::Field { tag, len }
-}
-
-// The length of a body by its tag.
-fn right_length(tag: u8) -> usize
-    ensures { λ r. ⌜ r ≡ lengthOf tag ⌝ }
-{
-    match tag {
-        1 => 3,
-        2 => 2,
-        3 => 8,
-        4 => 1,
-        5 => 7,
-        6 => 2,
-        7 => 1,
-        _ => 0,
-    }
-}
-
-// The refusal that tag and length call for: 1, 2 or none.
-fn due_header(tag: u8, len: usize) -> u8
-    ensures { λ r. ⌜ r ≡ dueHeader tag len ⌝ }
-{
-    let d = sheet::first(len == right_length(tag), 0, 2);
-    let d = sheet::first(7 < tag, 1, d);
-    sheet::first(tag == 0, 1, d)
 }
 
 fn put_extreme(out: &mut [u8], at: usize, x: Extreme) -> usize
@@ -153,7 +106,7 @@ pub fn read_field(sheet: Sheet, input: &[u8], out: &mut [u8]) -> Reading
 }
 
 // A field of known tag and right length, on a sheet whose effects are lent.
-fn run_in(rest: Rest, effects: &mut [i16; 1536], tag: u8, body: &[u8]) -> AnsweredRest
+fn run_in(rest: Rest, effects: &mut Effects, tag: u8, body: &[u8]) -> AnsweredRest
     requires { ⌜ InRange (whole rest (now effects)) ⌝ }
     ensures { λ r. ⌜ wholeOf r (now (effects .exit)) ≡ runOf (whole rest (now (effects .entry))) tag (now (body .entry)) ⌝ }
 {
@@ -188,11 +141,11 @@ fn run_in(rest: Rest, effects: &mut [i16; 1536], tag: u8, body: &[u8]) -> Answer
     }
 }
 
-fn field_in(rest: Rest, effects: &mut [i16; 1536], tag: u8, body: &[u8]) -> AnsweredRest
+fn field_in(rest: Rest, effects: &mut Effects, tag: u8, body: &[u8]) -> AnsweredRest
     requires { ⌜ InRange (whole rest (now effects)) ⌝ }
     ensures { λ r. ⌜ wholeOf r (now (effects .exit)) ≡ fieldOf (whole rest (now (effects .entry))) tag (now (body .entry)) ⌝ }
 {
-    let due = due_header(tag, body.len());
+    let due = headers::due_header(tag, body.len());
     if due == 0 {
         return run_in(rest, effects, tag, body);
     }
@@ -203,7 +156,7 @@ fn field_in(rest: Rest, effects: &mut [i16; 1536], tag: u8, body: &[u8]) -> Answ
 }
 
 // The same reading as `read_field`, on a sheet whose effects are lent, so that it copies none.
-pub fn read_in(rest: Rest, effects: &mut [i16; 1536], input: &[u8], out: &mut [u8]) -> ReadRest
+pub fn read_in(rest: Rest, effects: &mut Effects, input: &[u8], out: &mut [u8]) -> ReadRest
     requires { ⌜ InRange (whole rest (now effects)) ⌝ }
     ensures { λ r. ⌜ FieldRead (now (input .entry)) (now (out .entry)) (whole rest (now (effects .entry))) (wholeReading r (now (effects .exit))) (now (out .exit)) × ReadWithin (now (input .entry)) (now (out .entry)) (wholeReading r (now (effects .exit))) (now (out .exit)) ⌝ }
 {
@@ -215,7 +168,7 @@ pub fn read_in(rest: Rest, effects: &mut [i16; 1536], input: &[u8], out: &mut [u
             written: 0,
         };
     }
-    let h = header_of(input);
+    let h = headers::header_of(input);
     let Header::Field { tag, len } = h else {
         let refused = Answer::Refused(3);
         let written = put_answer(out, refused);
@@ -236,34 +189,6 @@ pub fn read_in(rest: Rest, effects: &mut [i16; 1536], input: &[u8], out: &mut [u
         consumed: 3 + len,
         written,
     }
-}
-
-// How many bytes a reading consumes: the field, or all that is left where it is cut.
-pub fn consumed_by(input: &[u8]) -> usize
-    ensures { λ r. ⌜ r ≡ consumedBy (now (input .entry)) ⌝ }
-{
-    let h = header_of(input);
-    let Header::Field { tag: _, len } = h else {
-        return input.len();
-    };
-    3 + len
-}
-
-// Whether what is at hand can be read now: a whole field, or a header that calls for 3 whatever follows.
-pub fn is_ready(input: &[u8]) -> bool
-    ensures { λ r. ⌜ r ≡ readyOf (now (input .entry)) ⌝ }
-{
-    if input.len() < 3 {
-        return false;
-    }
-    let len = wire::word(input, 1) as usize;
-    if 60000 < len {
-        return true;
-    }
-    if input.len() - 3 < len {
-        return false;
-    }
-    true
 }
 
 // Whether the service stops after this answer.

@@ -6,8 +6,8 @@ use mathlib.Core.List.{List, [], _∷_}
 use native.Mathlib.Omega.{arith}
 use lib.ListN.{length, take, drop, length-drop, drop-of-length-le}
 use lib.Seq.{take-all, drop-drop}
-use Rattle.fields.specs.Field.{consumedBy}
-use Rattle.fields.proofs.Consumed.{consumed-within, consumed-some}
+use Rattle.headers.specs.Headers.{consumedBy}
+use Rattle.headers.proofs.Whole.{consumed-within, consumed-some}
 use Rattle.frames_c.specs.Lists.{fieldsFrom, fieldsOf}
 
 -- fs are the fields of the input from place i on

@@ -10,7 +10,8 @@ use Rattle.sheet.specs.Sheet.{freshSheet}
 use Rattle.sheet.specs.Range.{InRange}
 use Rattle.fields.specs.Field.{readField}
 use Rattle.fields.specs.Readings.{ReadThrough, end, field}
-use Rattle.fields.proofs.Consumed.{read-consumed, consumed-some}
+use Rattle.fields.proofs.Consumed.{read-consumed}
+use Rattle.headers.proofs.Whole.{consumed-some}
 use Rattle.saving.specs.Saved.{savedBytes}
 use Rattle.saving.proofs.RoundTrip.{round-trip}
 use Rattle.frames_c.specs.Lists.{fieldsFrom, fieldsOf, sheetAfter, answersTo, firstRefusal, loaded, dueState, savedAfter}

@@ -14,7 +14,8 @@ use Rattle.wire.specs.Bytes.{over}
 use Rattle.sheet.specs.Parts.{whole}
 use Rattle.fields.specs.declared.Reading.{Reading}
 use Rattle.fields.specs.declared.ReadRest.{ReadRest}
-use Rattle.fields.specs.Field.{consumedBy, readField, answerBytes}
+use Rattle.headers.specs.Headers.{consumedBy}
+use Rattle.fields.specs.Field.{readField, answerBytes}
 use Rattle.fields.specs.Readings.{FieldRead, wholeReading}
 use Rattle.fields.proofs.Consumed.{same-with-room, read-consumed, read-written}
 use Rattle.fields.proofs.Within.{answer-fits}

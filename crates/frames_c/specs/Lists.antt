@@ -10,7 +10,8 @@ use Rattle.sheet.specs.declared.Sheet.{Sheet}
 use Rattle.sheet.specs.declared.Answer.{Answer}
 use Rattle.sheet.specs.declared.Answer.the-variants as answer
 use Rattle.sheet.specs.Sheet.{freshSheet}
-use Rattle.fields.specs.Field.{consumedBy, readField, answerBytes}
+use Rattle.headers.specs.Headers.{consumedBy}
+use Rattle.fields.specs.Field.{readField, answerBytes}
 use Rattle.saving.specs.Saved.{savedBytes}
 use Rattle.frames_c.specs.declared.Ran.{Ran}
 

@@ -10,7 +10,8 @@ use lib.Seq.{sets}
 use Rattle.sheet.specs.declared.Sheet.{Sheet}
 use Rattle.sheet.specs.Range.{InRange}
 use Rattle.sheet.specs.Parts.{whole}
-use Rattle.fields.specs.Field.{consumedBy, readField, answerBytes}
+use Rattle.headers.specs.Headers.{consumedBy}
+use Rattle.fields.specs.Field.{readField, answerBytes}
 use Rattle.saving.specs.declared.Saved.{Saved}
 use Rattle.saving.specs.declared.Saved.the-variants.{Written, Refused}
 use Rattle.frames_c.specs.declared.Progress.{Progress}

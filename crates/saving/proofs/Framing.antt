@@ -12,9 +12,10 @@ use Rattle.wire.specs.Bytes.{wordAt}
 use Rattle.sheet.specs.declared.Sheet.{Sheet}
 use Rattle.sheet.specs.declared.Answer.the-variants.{Accepted}
 use Rattle.sheet.specs.declared.Answered.{Answered}
-use Rattle.fields.specs.declared.Header.the-variants.{Field}
+use Rattle.headers.specs.declared.Header.the-variants.{Field}
 use Rattle.fields.specs.declared.Reading.{Reading}
-use Rattle.fields.specs.Field.{headerOf, fieldOf, readHeader, readField, reading}
+use Rattle.headers.specs.Headers.{headerOf}
+use Rattle.fields.specs.Field.{fieldOf, readHeader, readField, reading}
 use Rattle.fields.specs.Readings.{ReadThrough, field}
 use Rattle.saving.specs.Saved.{upTo}
 

@@ -6,7 +6,7 @@ use native.Mathlib.Omega.{arith}
 use borrow.Author.Tests.{lt-ltb, le-ltb}
 use Rattle.wire.specs.Bytes.{over}
 use Rattle.fields.specs.Field.{readField, readHeader, reading, answerBytes}
-use Rattle.fields.proofs.Laws.{header-fits}
+use Rattle.headers.proofs.Whole.{header-fits}
 use Rattle.fields.proofs.Within.{read-on}
 use borrow.Author.Needs.{needs}
 use Rattle.fields.proofs.read_in.Statement.{statement}

@@ -6,7 +6,7 @@ use mathlib.Core.List.{List}
 use native.Mathlib.Omega.{arith}
 use borrow.Author.Needs.{needs}
 use lib.ListN.{length, take, drop}
-use Rattle.fields.specs.Field.{consumedBy}
+use Rattle.headers.specs.Headers.{consumedBy}
 use Rattle.frames_c.proofs.Lists.{Counted, part-from, left-next, counted-start, counted-next, counted-end}
 use Rattle.frames_c.proofs.frames_count.Statement.{statement}
 use Rattle.frames_c.proofs.frames_count.Tie as tie

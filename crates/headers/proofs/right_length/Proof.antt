@@ -1,4 +1,4 @@
--- `fields::right_length` meets its contract, tag by tag.
+-- `headers::right_length` meets its contract, tag by tag.
 -- Assumes nothing.
 use Prim.Native.Nat.{ℕ, _≤_, _<_}
 use mathlib.Core.Path.{_≡_, sym}
@@ -7,9 +7,9 @@ use mathlib.Core.Logic.{⊎-elim}
 use native.Mathlib.Omega.{arith}
 use lib.ListN.{List·getD-eq-default}
 use Rattle.wire.proofs.Cases.{eq-or-ne}
-use Rattle.fields.specs.Field.{lengthOf}
-use Rattle.fields.proofs.right_length.Statement.{statement}
-use Rattle.fields.proofs.right_length.Tie as tie
+use Rattle.headers.specs.Headers.{lengthOf}
+use Rattle.headers.proofs.right_length.Statement.{statement}
+use Rattle.headers.proofs.right_length.Tie as tie
 
 -- at least k and not k
 past : {n : ℕ} (k : ℕ) → k ≤ n → (n ≡ k → ⊥) → k < n

@@ -1,12 +1,12 @@
--- `fields::consumed_by` meets its contract: a cut field takes all that is left, another its own length.
+-- `headers::consumed_by` meets its contract: a cut field takes all that is left, another its own length.
 -- Assumes nothing.
 use mathlib.Core.Path.{sym, _∙_}
 use native.Mathlib.Omega.{arith}
 use lib.ListN.{length}
-use Rattle.fields.proofs.Laws.{header-fits}
+use Rattle.headers.proofs.Whole.{header-fits}
 use borrow.Author.Needs.{needs}
-use Rattle.fields.proofs.consumed_by.Statement.{statement}
-use Rattle.fields.proofs.consumed_by.Tie as tie
+use Rattle.headers.proofs.consumed_by.Statement.{statement}
+use Rattle.headers.proofs.consumed_by.Tie as tie
 
 header-of-requires : tie.Need-header-of-requires
 header-of-requires c κs = search needs

@@ -1,9 +1,9 @@
--- `fields::due_header` meets its contract: the calls of `first` are the chain.
+-- `headers::due_header` meets its contract: the calls of `first` are the chain.
 -- Assumes nothing.
-use Rattle.fields.specs.Field.{dueHeader}
+use Rattle.headers.specs.Headers.{dueHeader}
 use borrow.Author.Needs.{needs}
-use Rattle.fields.proofs.due_header.Statement.{statement}
-use Rattle.fields.proofs.due_header.Tie as tie
+use Rattle.headers.proofs.due_header.Statement.{statement}
+use Rattle.headers.proofs.due_header.Tie as tie
 
 right-length-requires : tie.Need-right-length-requires
 right-length-requires c κs = search needs

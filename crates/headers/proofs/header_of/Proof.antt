@@ -1,10 +1,10 @@
--- `fields::header_of` meets its contract: its tests are those of the definition.
+-- `headers::header_of` meets its contract: its tests are those of the definition.
 -- Assumes nothing.
 use borrow.Author.Tests.{lt-ltb, le-ltb}
-use Rattle.fields.specs.Field.{headerOf}
+use Rattle.headers.specs.Headers.{longestBody, headerOf}
 use borrow.Author.Needs.{needs}
-use Rattle.fields.proofs.header_of.Statement.{statement}
-use Rattle.fields.proofs.header_of.Tie as tie
+use Rattle.headers.proofs.header_of.Statement.{statement}
+use Rattle.headers.proofs.header_of.Tie as tie
 
 returns : tie.Need-returns
 unfolding headerOf
@@ -21,19 +21,19 @@ cast-len c = search needs
 
 returns-2 : tie.Need-returns-2
 unfolding headerOf
-returns-2 c = simp (le-ltb _ _ (c .before .before .before .if1 .left), lt-ltb 60000 _ (rw (c .before .word .ensures) at (c .if2 .taken)))
+returns-2 c = simp (le-ltb _ _ (c .before .before .before .if1 .left), lt-ltb longestBody _ (rw (c .before .word .ensures) at (c .if2 .taken)))
 
 returns-3 : tie.Need-returns-3
 unfolding headerOf
 returns-3 c =
     let w = c .before .before .word .ensures in
-    simp (le-ltb _ _ (c .before .before .before .before .if1 .left), le-ltb 60000 _ (rw w at (c .before .if2 .left)), lt-ltb _ _ (rw w at (c .if3 .taken)))
+    simp (le-ltb _ _ (c .before .before .before .before .if1 .left), le-ltb longestBody _ (rw w at (c .before .if2 .left)), lt-ltb _ _ (rw w at (c .if3 .taken)))
 
 returns-4 : tie.Need-returns-4
 unfolding headerOf
 returns-4 c =
     let w = c .before .before .word .ensures in
-    simp (le-ltb _ _ (c .before .before .before .before .if1 .left), le-ltb 60000 _ (rw w at (c .before .if2 .left)), le-ltb _ _ (rw w at (c .if3 .left))) (cc)
+    simp (le-ltb _ _ (c .before .before .before .before .if1 .left), le-ltb longestBody _ (rw w at (c .before .if2 .left)), le-ltb _ _ (rw w at (c .if3 .left))) (cc)
 
 pub header-of-spec : {M : Type 1} → statement M
 header-of-spec =

@@ -1,10 +1,10 @@
--- `fields::is_ready` meets its contract: its tests are those of the definition.
+-- `headers::is_ready` meets its contract: its tests are those of the definition.
 -- Assumes nothing.
 use borrow.Author.Tests.{lt-ltb, le-ltb}
-use Rattle.fields.specs.Field.{readyOf}
+use Rattle.headers.specs.Headers.{longestBody, readyOf}
 use borrow.Author.Needs.{needs}
-use Rattle.fields.proofs.is_ready.Statement.{statement}
-use Rattle.fields.proofs.is_ready.Tie as tie
+use Rattle.headers.proofs.is_ready.Statement.{statement}
+use Rattle.headers.proofs.is_ready.Tie as tie
 
 returns : tie.Need-returns
 unfolding readyOf
@@ -18,7 +18,7 @@ cast-len c = search needs
 
 returns-2 : tie.Need-returns-2
 unfolding readyOf
-returns-2 c = simp (le-ltb _ _ (c .before .before .if1 .left), lt-ltb 60000 _ (rw (c .before .word .ensures) at (c .if2 .taken)))
+returns-2 c = simp (le-ltb _ _ (c .before .before .if1 .left), lt-ltb longestBody _ (rw (c .before .word .ensures) at (c .if2 .taken)))
 
 sub-if3 : tie.Need-sub-if3
 sub-if3 c = search needs
@@ -27,13 +27,13 @@ returns-3 : tie.Need-returns-3
 unfolding readyOf
 returns-3 c =
     let w = c .before .before .word .ensures in
-    simp (le-ltb _ _ (c .before .before .before .if1 .left), le-ltb 60000 _ (rw w at (c .before .if2 .left)), lt-ltb _ _ (rw w at (c .if3 .taken)))
+    simp (le-ltb _ _ (c .before .before .before .if1 .left), le-ltb longestBody _ (rw w at (c .before .if2 .left)), lt-ltb _ _ (rw w at (c .if3 .taken)))
 
 returns-4 : tie.Need-returns-4
 unfolding readyOf
 returns-4 c =
     let w = c .before .before .word .ensures in
-    simp (le-ltb _ _ (c .before .before .before .if1 .left), le-ltb 60000 _ (rw w at (c .before .if2 .left)), le-ltb _ _ (rw w at (c .if3 .left)))
+    simp (le-ltb _ _ (c .before .before .before .if1 .left), le-ltb longestBody _ (rw w at (c .before .if2 .left)), le-ltb _ _ (rw w at (c .if3 .left)))
 
 pub is-ready-spec : {M : Type 1} → statement M
 is-ready-spec = tie.close (tie.spec returns word-requires cast-len returns-2 sub-if3 returns-3 returns-4)
