@@ -1,7 +1,7 @@
 -- Laws of sums and maxima over the numbers below n.
 -- Assumes nothing.
 use Prim.Native.Nat.{ℕ, zero, suc, _+_, _*_, _<_, _≤_, max}
-use native.Mathlib.Nat.{mul-le-mul-left}
+use native.Mathlib.Nat.{mul-le-mul-left, le-antisymm}
 use native.Mathlib.Omega.{arith}
 use native.Mathlib.Decide.{ℕ-discrete}
 use mathlib.Core.Path.{_≡_, refl, sym, ap, _∙_, subst}
@@ -114,6 +114,17 @@ pub most-le : (n m : ℕ) (g : ℕ → ℕ) → ((k : ℕ) → k < n → g k ≤
 unfolding most
 most-le zero m g e = omega arith
 most-le (suc n) m g e = omega (arith, most-le n m g (λ k l. e k (omega arith)), e n (omega arith))
+
+-- only one value can be other than 0
+pub most-only : (n k : ℕ) (g : ℕ → ℕ) → k < n → ((j : ℕ) → (j ≡ k → ⊥) → g j ≡ 0) → most n g ≡ g k
+most-only n k g h none = le-antisymm (most-le n (g k) g each) (most-ge n k g h)
+  where
+    each : (j : ℕ) → j < n → g j ≤ g k
+    each j l = go (ℕ-discrete j k)
+      where
+        go : Dec (j ≡ k) → g j ≤ g k
+        go (yes e) = subst (λ (i : ℕ). g i ≤ g k) (sym e) (omega arith)
+        go (no e) = omega (arith, none j e)
 
 pub most-same : (n : ℕ) (g h : ℕ → ℕ) → ((k : ℕ) → k < n → g k ≡ h k) → most n g ≡ most n h
 unfolding most

@@ -1,14 +1,17 @@
 -- A row's value from the terms is the sum over the kinds of what the factors give.
 -- Assumes nothing.
-use Prim.Native.Nat.{ℕ, _+_, _*_, _≤_, max, min}
+use Prim.Native.Nat.{ℕ, _+_, _*_, _<_, _≤_, max, min}
 use native.Mathlib.Nat.{mul-le-mul-left}
 use native.Mathlib.Omega.{arith}
+use mathlib.Core.Bool.{Bool}
 use mathlib.Core.Path.{_≡_, refl, sym, ap, _∙_}
+use borrow.Author.Tests.{eq-eqb, ne-eqb}
 use lib.Dec.{eqb}
 use lib.IntN.{ℤ, pos, negℤ, _+ℤ_, _-ℤ_, _*ℤ_}
 use Rattle.integers.specs.Sums.{when, sum, most, up, down}
 use Rattle.integers.proofs.Signs.{eq-in, add-parts, neg-up, neg-down, mul-up, mul-down}
-use Rattle.integers.proofs.Sums.{ltb-cases}
+use Rattle.integers.proofs.Sums.{ltb-cases, most-same, most-only}
+use Rattle.standard.proofs.Table.{tabulate, same-at}
 use Rattle.standard.specs.declared.Settings.{Settings}
 use Rattle.standard.specs.Kinds.{classOf, kindCount, groupCount}
 use Rattle.standard.specs.Rows.{factorOf}
@@ -101,17 +104,25 @@ module _ (s : Settings) (row : ℕ) (u d : ℕ → ℕ) where
   unfolding most groupOf classOf
   roof-is = amid (most 6 (byGroup s row u 0)) (f 6 * u 6) (f 7 * u 7) (f 8 * u 8) roof-first
 
+  -- a group that is one kind
+  one-kind : (g j : ℕ) → j < kindCount → tabulate (λ i. eqb (groupOf i) g) 0 kindCount ≡ tabulate (λ i. eqb i j) 0 kindCount → most kindCount (byGroup s row u g) ≡ f j * u j
+  one-kind g j l e =
+      most-same kindCount (byGroup s row u g) (λ i. when (eqb i j) (f i * u i))
+      (λ i h. ap (λ (t : Bool). when t (f i * u i)) (same-at (λ k. eqb (groupOf k) g) (λ k. eqb k j) 0 kindCount i e (omega arith) (omega arith)))
+      ∙ most-only kindCount j (λ i. when (eqb i j) (f i * u i)) l (λ i ne. ap (λ (t : Bool). when t (f i * u i)) (ne-eqb i j ne))
+      ∙ ap (λ (t : Bool). when t (f j * u j)) (eq-eqb j j refl)
+
   wind-is : most kindCount (byGroup s row u 1) ≡ f 9 * u 9
-  unfolding most groupOf classOf
-  wind-is = omega arith
+  unfolding groupOf classOf
+  wind-is = one-kind 1 9 (omega arith) refl
 
   quake-is : most kindCount (byGroup s row u 2) ≡ f 10 * u 10
-  unfolding most groupOf classOf
-  quake-is = omega arith
+  unfolding groupOf classOf
+  quake-is = one-kind 2 10 (omega arith) refl
 
   flood-is : most kindCount (byGroup s row u 3) ≡ f 11 * u 11
-  unfolding most groupOf classOf
-  flood-is = omega arith
+  unfolding groupOf classOf
+  flood-is = one-kind 3 11 (omega arith) refl
 
   groups-are : sum groupCount (λ g. most kindCount (byGroup s row u g))
       ≡ most kindCount (byGroup s row u 0) + most kindCount (byGroup s row u 1) + most kindCount (byGroup s row u 2) + most kindCount (byGroup s row u 3)
