@@ -9,8 +9,8 @@ use native.Mathlib.Omega.{arith}
 use borrow.Author.Tests.{ltb-false}
 use lib.ListN.{length}
 use lib.Dec.{ltb}
-use Rattle.wire.specs.Bytes.{wordAt, over}
-use Rattle.wire.proofs.Stores.{Put, front}
+use Rattle.wire.specs.Bytes.{wordAt, over, Put}
+use Rattle.wire.proofs.Stores.{front}
 use Rattle.fields.specs.declared.Header.{Header}
 use Rattle.fields.specs.declared.Header.the-variants.{Field, Short}
 use Rattle.fields.specs.Field.{headerOf}
