@@ -6,8 +6,8 @@ use mathlib.Core.List.{List}
 use mathlib.Core.Bool.{Bool, true, false, cond}
 use native.Mathlib.Nat.{zero-add}
 use lib.ListN.{length}
-use Rattle.wire.specs.Bytes.{over}
-use Rattle.wire.proofs.Stores.{Put, front}
+use Rattle.wire.specs.Bytes.{over, Put}
+use Rattle.wire.proofs.Stores.{front}
 
 -- what holds of both outcomes of a test
 pub both : {A : Type 0} (P : A → Type 0) (t : Bool) {a b : A} → P a → P b → P (cond t a b)

@@ -25,7 +25,7 @@ use Rattle.sheet.proofs.Kept.{fresh-in-range}
 use Rattle.fields.specs.Field.{readField}
 use Rattle.fields.proofs.Kept.{read-kept}
 use Rattle.fields.proofs.Within.{answer-fits}
-use Rattle.saving.specs.Saved.{savedBytes, savedAnswer, savedOver}
+use Rattle.saving.specs.Saved.{savedBytes, savedMost, savedAnswer, savedOver}
 use Rattle.saving.specs.declared.Saved.{Saved}
 use Rattle.saving.proofs.Lengths.{saved-most}
 use Rattle.frames_c.specs.declared.Progress.{Progress}
@@ -124,13 +124,13 @@ module _ (state input o : List ℕ) where
     abbrev due : ℕ
     due = dueRun state input (length o) (length place)
 
-    pub run-due-is : {n m rest : ℕ} {t : Bool} → n ≡ cond (ltb (length place) 5958) 14 m → m ≡ cond t 14 rest → t ≡ short input (length o) → rest ≡ dueState state → n ≡ due
-    run-due-is e d t r = e ∙ ap (λ (k : ℕ). cond (ltb (length place) 5958) 14 k) (answer-due state input (length o) d t r)
+    pub run-due-is : {n m rest : ℕ} {t : Bool} → n ≡ cond (ltb (length place) savedMost) 14 m → m ≡ cond t 14 rest → t ≡ short input (length o) → rest ≡ dueState state → n ≡ due
+    run-due-is e d t r = e ∙ ap (λ (k : ℕ). cond (ltb (length place) savedMost) 14 k) (answer-due state input (length o) d t r)
 
-    pub run-due : due ≡ 0 → (5958 ≤ length place) × (dueAnswer state input (length o) ≡ 0)
+    pub run-due : due ≡ 0 → (savedMost ≤ length place) × (dueAnswer state input (length o) ≡ 0)
     run-due e =
-        let x = none-due (ltb (length place) 5958) (dueAnswer state input (length o)) e in
-        (ltb-false (length place) 5958 (x .0), x .1)
+        let x = none-due (ltb (length place) savedMost) (dueAnswer state input (length o)) e in
+        (ltb-false (length place) savedMost (x .0), x .1)
 
     pub run-refused : {n : ℕ} → n ≡ due → (n ≡ 0 → ⊥) → RunDone state input o place (record { refusal = n; written = 0; saved = 0 }) o place
     run-refused {n} d h = record { result = rw (← d, ne-eqb n 0 h); written = rw (← d, ne-eqb n 0 h); saved = rw (← d, ne-eqb n 0 h) }

@@ -12,7 +12,7 @@ use Rattle.sheet.specs.declared.Answer.the-variants as answer
 use Rattle.sheet.specs.Sheet.{freshSheet}
 use Rattle.headers.specs.Headers.{consumedBy}
 use Rattle.fields.specs.Field.{readField, answerBytes}
-use Rattle.saving.specs.Saved.{savedBytes}
+use Rattle.saving.specs.Saved.{savedBytes, savedMost}
 use Rattle.frames_c.specs.declared.Ran.{Ran}
 
 -- 01, 'A sheet and its seven fields': the fields of a list, each as the bytes from its tag on; n is at least their number
@@ -66,7 +66,7 @@ dueAnswer state input room = cond (short input room) 14 (dueState state)
 
 -- and for a place to save of under 5,958 bytes, the greatest saved size
 abbrev pub dueRun : List ℕ → List ℕ → ℕ → ℕ → ℕ
-dueRun state input room place = cond (ltb place 5958) 14 (dueAnswer state input room)
+dueRun state input room place = cond (ltb place savedMost) 14 (dueAnswer state input room)
 
 -- the answers to a list, and the saved sheet after it
 abbrev pub answered : List ℕ → List ℕ → List ℕ

@@ -182,7 +182,7 @@ pub extern "C" fn frames_run(state: &[u8], input: &[u8], output: &mut [u8], save
     let p = load(&mut effects, state);
     let short = is_short(input, output.len());
     let due = sheet::first(short, 14, p.refusal);
-    let due = sheet::first(saved.len() < 5958, 14, due);
+    let due = sheet::first(saved.len() < saving::SAVED_MOST, 14, due);
     if due == 0 {
         let rest = p.rest;
         let q = read_all(rest, true, &mut effects, input, output);

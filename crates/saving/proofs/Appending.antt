@@ -3,22 +3,22 @@
 use Prim.Native.Nat.{ℕ, suc, _+_, _*_, _≤_, _<_}
 use mathlib.Core.Path.{_≡_, refl, sym, ap, _∙_}
 use mathlib.Core.List.{List, [], _++_}
-use mathlib.Core.Bool.{Bool, cond}
+use mathlib.Core.Bool.{Bool, cond, _&&_}
 use native.Mathlib.Numerals.{add-one}
 use native.Mathlib.Nat.{zero-add, add-zero, suc-mul, mul-le-mul-right}
 use native.Mathlib.Omega.{arith}
 use borrow.Author.Tests.{ne-eqb}
-use lib.IntN.{ℤ, pos}
+use lib.Dec.{eqb}
+use lib.IntN.{ℤ}
 use lib.ListN.{length, getD, take, drop, length-append}
 use lib.Seq.{sets, sets-eq, length-sets, take-append-seam}
 use mir.Syntax.{w16}
-use mir.Val.{ofZ, SFits}
+use mir.Val.{SFits}
 use mir.ValLaws.{toZ-ofZ}
-use Rattle.wire.specs.Bytes.{signed16, bits16, over}
-use Rattle.wire.proofs.Stores.{Put, put-none, put-long, put-two, front}
-use Rattle.effects.specs.Effects.{place}
-use Rattle.sheet.specs.Sheet.{capacityIn}
-use Rattle.saving.specs.Saved.{upTo, allZero, effectsField, fillField, capacitiesField, stationBytes, caseBytes, capacityBytes}
+use Rattle.wire.specs.Bytes.{signed16, bits16, over, Put}
+use Rattle.wire.proofs.Complement.{zero-bits}
+use Rattle.wire.proofs.Stores.{put-none, put-long, put-two, front}
+use Rattle.saving.specs.Saved.{upTo, words, allZero, effectsField, fillField, capacitiesField, stationBytes, caseBytes, capacityBytes}
 use Rattle.saving.proofs.Lengths.{upTo-most}
 
 -- ---- a loop of n turns that puts f 0, f 1, ..
@@ -60,38 +60,46 @@ module _ (f : ℕ → List ℕ) (n : ℕ) (o : List ℕ) (i : ℕ) {out : List �
 
 -- ---- what is put for a station or a place
 
--- n is the bits of the effect at i, which a call passes on by its bits
-pub record BitsAt (effects : List ℤ) (i n : ℕ) : Type 0 where
-  pub fits : SFits w16 (getD effects i (pos 0))
-  pub passed : n ≡ bits16 (signed16 (bits16 (getD effects i (pos 0))))
+pub zero-by-bits : {n y z : ℤ} → SFits w16 n → SFits w16 y → SFits w16 z →
+    allZero n y z ≡ (eqb (bits16 n) 0 && (eqb (bits16 y) 0 && eqb (bits16 z) 0))
+zero-by-bits {n} {y} {z} a b c = rw (zero-bits w16 n a, zero-bits w16 y b, zero-bits w16 z c)
 
-bits-at : {effects : List ℤ} {i n : ℕ} → BitsAt effects i n → bits16 (getD effects i (pos 0)) ≡ n
-bits-at {effects} {i} h = sym (h .passed ∙ ap (ofZ w16) (toZ-ofZ w16 (getD effects i (pos 0)) (h .fits)))
+-- n is the effect, which a call passes on by its bits
+pub record Read (effect n : ℤ) : Type 0 where
+  pub is : n ≡ effect
+  pub fits : SFits w16 n
 
-pub station-put : (effects : List ℤ) (case station : ℕ) {n y z : ℕ} {none : Bool} →
-    BitsAt effects (place case station) n → BitsAt effects (place case station + 1) y → BitsAt effects (place case station + 2) z → none ≡ allZero n y z →
-    stationBytes effects case station ≡ cond none [] (effectsField case station n y z)
-unfolding stationBytes
-station-put effects case station a b c e = rw (add-zero, bits-at a, bits-at b, bits-at c, e)
+passed-on : {effect n : ℤ} → Read effect n → signed16 (bits16 n) ≡ n
+passed-on {effect} {n} h = toZ-ofZ w16 n (h .fits)
 
-module _ (effects : List ℤ) (case kind : ℕ) where
-  pub case-none : kind ≡ 0 → caseBytes effects case kind ≡ []
+module _ (effect : ℕ → ℕ → ℕ → ℤ) (case station : ℕ) {n y z : ℤ} (a : Read (effect case station 0) n) (b : Read (effect case station 1) y) (c : Read (effect case station 2) z) where
+  pub station-put : {none : Bool} → none ≡ allZero (signed16 (bits16 n)) (signed16 (bits16 y)) (signed16 (bits16 z)) →
+      stationBytes effect case station ≡ cond none [] (effectsField case station n y z)
+  unfolding stationBytes
+  station-put e = rw (← (a .is), ← (b .is), ← (c .is), e, passed-on a, passed-on b, passed-on c)
+
+  pub words-put : {v w x : ℕ} → v ≡ bits16 (signed16 (bits16 n)) → w ≡ bits16 (signed16 (bits16 y)) → x ≡ bits16 (signed16 (bits16 z)) →
+      words v w x ≡ words (bits16 n) (bits16 y) (bits16 z)
+  words-put d e f = rw (d, e, f, passed-on a, passed-on b, passed-on c)
+
+module _ (kind : ℕ → ℕ) (effect : ℕ → ℕ → ℕ → ℤ) (case : ℕ) where
+  pub case-none : kind case ≡ 0 → caseBytes kind effect case ≡ []
   unfolding caseBytes
   case-none h = rw h
 
-  pub case-some : (kind ≡ 0 → ⊥) → caseBytes effects case kind ≡ fillField case kind ++ upTo (stationBytes effects case) 16
+  pub case-some : (kind case ≡ 0 → ⊥) → caseBytes kind effect case ≡ fillField case (kind case) ++ upTo (stationBytes effect case) 16
   unfolding caseBytes
-  case-some h = rw (ne-eqb kind 0 h)
+  case-some h = rw (ne-eqb (kind case) 0 h)
 
-module _ (capacities : List ℕ) (station : ℕ) {n : ℕ} (a : n ≡ getD capacities (station * 3) 0) where
-  pub capacity-none : n ≡ 0 → capacityBytes capacities station ≡ []
+module _ (capacity : ℕ → ℕ → ℕ) (station : ℕ) {n : ℕ} (a : n ≡ capacity station 0) where
+  pub capacity-none : n ≡ 0 → capacityBytes capacity station ≡ []
   unfolding capacityBytes
-  capacity-none h = rw (add-zero, ← a, h)
+  capacity-none h = rw (← a, h)
 
-  pub capacity-some : {y z : ℕ} → y ≡ capacityIn capacities station 1 → z ≡ capacityIn capacities station 2 → (n ≡ 0 → ⊥) →
-      capacityBytes capacities station ≡ capacitiesField station n y z
+  pub capacity-some : {y z : ℕ} → y ≡ capacity station 1 → z ≡ capacity station 2 → (n ≡ 0 → ⊥) →
+      capacityBytes capacity station ≡ capacitiesField station n y z
   unfolding capacityBytes
-  capacity-some b c h = rw (add-zero, ← a, ← b, ← c, ne-eqb n 0 h)
+  capacity-some b c h = rw (← a, ← b, ← c, ne-eqb n 0 h)
 
 -- ---- a run put at the front
 

@@ -8,9 +8,10 @@ use native.Mathlib.Omega.{arith}
 use lib.Dec.{lit≤, eqb}
 use lib.IntN.{ℤ}
 use lib.ListN.{length, length-append}
+use Rattle.standard.specs.declared.Settings.{Settings}
 use Rattle.sheet.specs.declared.Sheet.{Sheet}
-use Rattle.sheet.specs.Sheet.{kindAt, capacityIn}
-use Rattle.saving.specs.Saved.{upTo, settingsField, fillField, effectsField, capacitiesField, allZero, rawIn, stationBytes, caseBytes, capacityBytes, savedBytes}
+use Rattle.sheet.specs.Sheet.{kindAt, effectAt, capacityAt}
+use Rattle.saving.specs.Saved.{upTo, words, settingsField, fillField, effectsField, capacitiesField, allZero, stationBytes, caseBytes, capacityBytes, savedBy, savedBytes, stationMost, caseMost, capacityMost, savedMost}
 
 -- n runs, each of b bytes at most
 pub upTo-most : (f : ℕ → List ℕ) (b : ℕ) → ((k : ℕ) → length (f k) ≤ b) → (n : ℕ) → length (upTo f n) ≤ n * b
@@ -26,37 +27,40 @@ cond-most : (t : Bool) (w : List ℕ) (b : ℕ) → length w ≤ b → length (c
 cond-most true w b h = zero-le
 cond-most false w b h = h
 
-pub station-most : (effects : List ℤ) (case station : ℕ) → length (stationBytes effects case station) ≤ 11
-unfolding stationBytes effectsField
-station-most effects case station =
-    let raw : ℕ → ℕ = rawIn effects case station in
-    cond-most (allZero (raw 0) (raw 1) (raw 2)) (effectsField case station (raw 0) (raw 1) (raw 2)) 11 (lit≤ tt)
+module _ (effect : ℕ → ℕ → ℕ → ℤ) where
+  pub station-most : (case station : ℕ) → length (stationBytes effect case station) ≤ stationMost
+  unfolding stationBytes effectsField words
+  station-most case station =
+      let e : ℕ → ℤ = effect case station in
+      cond-most (allZero (e 0) (e 1) (e 2)) (effectsField case station (e 0) (e 1) (e 2)) stationMost (lit≤ tt)
 
-pub case-most : (effects : List ℤ) (case kind : ℕ) → length (caseBytes effects case kind) ≤ 181
-unfolding caseBytes fillField
-case-most effects case kind =
-    let h : length (upTo (stationBytes effects case) 16) ≤ 176 = upTo-most (stationBytes effects case) 11 (station-most effects case) 16 in
-    cond-most (eqb kind 0) (fillField case kind ++ upTo (stationBytes effects case) 16) 181 (omega arith)
+  pub case-most : (kind : ℕ → ℕ) (case : ℕ) → length (caseBytes kind effect case) ≤ caseMost
+  unfolding caseBytes fillField
+  case-most kind case =
+      let h = upTo-most (stationBytes effect case) stationMost (station-most case) 16 in
+      cond-most (eqb (kind case) 0) (fillField case (kind case) ++ upTo (stationBytes effect case) 16) caseMost (omega arith)
 
-pub capacity-most : (capacities : List ℕ) (station : ℕ) → length (capacityBytes capacities station) ≤ 10
-unfolding capacityBytes capacitiesField
-capacity-most capacities station =
-    let held : ℕ → ℕ = capacityIn capacities station in
-    cond-most (eqb (held 0) 0) (capacitiesField station (held 0) (held 1) (held 2)) 10 (lit≤ tt)
+pub capacity-most : (capacity : ℕ → ℕ → ℕ) (station : ℕ) → length (capacityBytes capacity station) ≤ capacityMost
+unfolding capacityBytes capacitiesField words
+capacity-most capacity station =
+    let held : ℕ → ℕ = capacity station in
+    cond-most (eqb (held 0) 0) (capacitiesField station (held 0) (held 1) (held 2)) capacityMost (lit≤ tt)
 
--- what is saved of all places
-abbrev pub placesBytes : Sheet → List ℕ
-placesBytes s = upTo (λ case. caseBytes (s .effects) case (kindAt s case)) 32
+module _ (kind : ℕ → ℕ) (effect : ℕ → ℕ → ℕ → ℤ) where
+  -- what is saved of all places
+  pub places-most : length (upTo (caseBytes kind effect) 32) ≤ 32 * caseMost
+  places-most = upTo-most (caseBytes kind effect) caseMost (case-most effect kind) 32
 
-pub places-most : (s : Sheet) → length (placesBytes s) ≤ 5792
-places-most s = upTo-most (λ case. caseBytes (s .effects) case (kindAt s case)) 181 (λ case. case-most (s .effects) case (kindAt s case)) 32
+  by-most : (settings : Settings) (capacity : ℕ → ℕ → ℕ) → length (savedBy settings kind effect capacity) ≤ savedMost
+  unfolding savedBy settingsField
+  by-most settings capacity =
+      let v = upTo (caseBytes kind effect) 32 in
+      let w = upTo (capacityBytes capacity) 16 in
+      let h = places-most in
+      let g = upTo-most (capacityBytes capacity) capacityMost (capacity-most capacity) 16 in
+      rw (length-append (settingsField settings) (v ++ w), length-append v w) (omega arith)
 
 -- a saved sheet's greatest size
-pub saved-most : (s : Sheet) → length (savedBytes s) ≤ 5958
-unfolding savedBytes settingsField
-saved-most s =
-    let v = placesBytes s in
-    let w = upTo (capacityBytes (s .capacities)) 16 in
-    let h = places-most s in
-    let g : length w ≤ 160 = upTo-most (capacityBytes (s .capacities)) 10 (capacity-most (s .capacities)) 16 in
-    rw (length-append (settingsField (s .settings)) (v ++ w), length-append v w) (omega arith)
+pub saved-most : (s : Sheet) → length (savedBytes s) ≤ savedMost
+unfolding savedBytes
+saved-most s = by-most (kindAt s) (effectAt s) (s .settings) (capacityAt s)

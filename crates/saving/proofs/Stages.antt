@@ -15,7 +15,7 @@ use lib.Signed.{mag}
 use mir.Syntax.{w16}
 use mir.Val.{SFits}
 use mir.ValLaws.{toZ-ofZ}
-use Rattle.wire.specs.Bytes.{signed16}
+use Rattle.wire.specs.Bytes.{signed16, bits16}
 use Rattle.wire.proofs.Cases.{lt-or-ge, eq-or-ne}
 use Rattle.sheet.specs.declared.Sheet.{Sheet}
 use Rattle.sheet.specs.Sheet.{kindAt, effectAt, capacityAt, fresh, withKind, withEffects, withCapacities}
@@ -27,7 +27,6 @@ use Rattle.sheet.proofs.Refusals.{tried-none}
 use Rattle.sheet.specs.Looks.{edited}
 use Rattle.fields.specs.Field.{fieldOf, runOf}
 use Rattle.headers.specs.Headers.{dueHeader, lengthOf}
-use Rattle.saving.specs.Saved.{rawIn}
 use Rattle.saving.proofs.Framing.{accepted}
 
 -- ---- a field that is not refused
@@ -62,11 +61,11 @@ mag-le (negsuc n) = le-suc n
 in-width : (e : ℤ) → natAbs e ≤ 10000 → SFits w16 e
 in-width e h = let g = mag-le e in record { sfits = omega arith }
 
-pub effect-back : (s : Sheet) → InRange s → (k t j : ℕ) → signed16 (rawIn (s .effects) k t j) ≡ effectAt s k t j
+pub effect-back : (s : Sheet) → InRange s → (k t j : ℕ) → signed16 (bits16 (effectAt s k t j)) ≡ effectAt s k t j
 unfolding effectAt
 effect-back s h k t j = toZ-ofZ w16 _ (in-width _ (h .effects-range _))
 
-pub effect-within : (s : Sheet) → InRange s → (k t j : ℕ) → natAbs (signed16 (rawIn (s .effects) k t j)) ≤ 10000
+pub effect-within : (s : Sheet) → InRange s → (k t j : ℕ) → natAbs (signed16 (bits16 (effectAt s k t j))) ≤ 10000
 unfolding effectAt
 effect-within s h k t j = rw (effect-back s h k t j) (h .effects-range _)
 

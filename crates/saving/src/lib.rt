@@ -1,10 +1,18 @@
 // Writes a sheet as the fields that make it.
+use sheet::Rest;
 use sheet::Sheet;
 ghost use mathlib.Core.Path.{_≡_};
 ghost use Prim.Native.Nat.{ℕ, _+_, _*_, _<_, _≤_};
-ghost use lib.ListN.{length, getD, drop};
+ghost use lib.ListN.{length, getD};
 ghost use lib.Seq.{sets};
-ghost use Rattle.saving.specs.Saved.{upTo, allZero, stationBytes, caseBytes, capacityBytes, savedBytes, savedOver, savedAnswer};
+ghost use Rattle.wire.specs.Bytes.{Put};
+ghost use Rattle.effects.specs.Effects.{effectIn};
+ghost use Rattle.sheet.specs.Sheet.{capacityIn};
+ghost use Rattle.sheet.specs.Parts.{whole};
+ghost use Rattle.saving.specs.Saved.{upTo, words, allZero, stationBytes, caseBytes, capacityBytes, savedBytes, savedOver, savedAnswer, stationMost, caseMost, capacityMost, savedMost};
+
+// The most bytes of a saved sheet.
+pub const SAVED_MOST: usize = 6 + 32 * (5 + 16 * 11) + 16 * 10;
 
 // The count of bytes written, or the refusal 14.
 pub enum Saved {
@@ -12,29 +20,33 @@ pub enum Saved {
     Refused(u8),
 }
 
-fn all_zero(n: u16, y: u16, z: u16) -> bool
+// The effect of a case at a station on component j.
+fn effect_in(effects: &[i16; 1536], case: usize, station: usize, j: usize) -> i16
+    requires { ⌜ (case < 32) × (station < 16) × (j < 3) ⌝ }
+    ensures { λ r. ⌜ r ≡ effectIn (now (effects .entry)) case station j ⌝ }
+{
+    effects[station * 96 + case * 3 + j]
+}
+
+fn capacity_in(capacities: &[u16; 48], station: usize, j: usize) -> u16
+    requires { ⌜ (station < 16) × (j < 3) ⌝ }
+    ensures { λ r. ⌜ r ≡ capacityIn (now (capacities .entry)) station j ⌝ }
+{
+    capacities[station * 3 + j]
+}
+
+fn all_zero(n: i16, y: i16, z: i16) -> bool
     ensures { λ r. ⌜ r ≡ allZero n y z ⌝ }
 {
     n == 0 && (y == 0 && z == 0)
 }
 
-fn put_effects(effects: &[i16], out: &mut [u8], at: usize, case: usize, station: usize) -> usize
-    requires { ⌜ (length (now effects) ≡ 1536) × (case < 32) × (station < 16) × (at + 11 ≤ length (now out)) ⌝ }
-    ensures { λ r. ⌜ (r ≡ at + length (stationBytes (now (effects .entry)) case station)) × (now (out .exit) ≡ sets (now (out .entry)) at (stationBytes (now (effects .entry)) case station)) ⌝ }
+// Writes three numbers, two bytes each.
+fn put_words(out: &mut [u8], at: usize, n: u16, y: u16, z: u16) -> usize
+    requires { ⌜ at + 6 ≤ length (now out) ⌝ }
+    ensures { λ r. ⌜ Put (now (out .entry)) at (words n y z) r (now (out .exit)) ⌝ }
 {
-    let p = station * 96 + case * 3;
-    let n = wire::bits(effects[p]);
-    let y = wire::bits(effects[p + 1]);
-    let z = wire::bits(effects[p + 2]);
-    if all_zero(n, y, z) {
-        return at;
-    }
     let b = [
-        3u8,
-        0,
-        8,
-        case as u8,
-        station as u8,
         (n / 256) as u8,
         (n % 256) as u8,
         (y / 256) as u8,
@@ -45,107 +57,130 @@ fn put_effects(effects: &[i16], out: &mut [u8], at: usize, case: usize, station:
     wire::put_at(out, at, &b)
 }
 
-fn put_stations(effects: &[i16], out: &mut [u8], at: usize, case: usize) -> usize
-    requires { ⌜ (length (now effects) ≡ 1536) × (case < 32) × (at + 176 ≤ length (now out)) ⌝ }
-    ensures { λ r. ⌜ (r ≡ at + length (upTo (stationBytes (now (effects .entry)) case) 16)) × (now (out .exit) ≡ sets (now (out .entry)) at (upTo (stationBytes (now (effects .entry)) case) 16)) ⌝ }
+fn put_effects(
+    effects: &[i16; 1536],
+    out: &mut [u8],
+    at: usize,
+    case: usize,
+    station: usize,
+) -> usize
+    requires { ⌜ (case < 32) × (station < 16) × (at + stationMost ≤ length (now out)) ⌝ }
+    ensures { λ r. ⌜ Put (now (out .entry)) at (stationBytes (effectIn (now (effects .entry))) case station) r (now (out .exit)) ⌝ }
+{
+    let n = effect_in(effects, case, station, 0);
+    let y = effect_in(effects, case, station, 1);
+    let z = effect_in(effects, case, station, 2);
+    if all_zero(n, y, z) {
+        return at;
+    }
+    let b = [3u8, 0, 8, case as u8, station as u8];
+    let to = wire::put_at(out, at, &b);
+    put_words(out, to, wire::bits(n), wire::bits(y), wire::bits(z))
+}
+
+fn put_stations(effects: &[i16; 1536], out: &mut [u8], at: usize, case: usize) -> usize
+    requires { ⌜ (case < 32) × (at + 16 * stationMost ≤ length (now out)) ⌝ }
+    ensures { λ r. ⌜ Put (now (out .entry)) at (upTo (stationBytes (effectIn (now (effects .entry))) case) 16) r (now (out .exit)) ⌝ }
 {
     let mut to = at;
-    let mut t = 0;
-    while t < 16 {
-        to = put_effects(effects, out, to, case, t);
-        t += 1;
+    let mut i = 0;
+    while i < 16 {
+        to = put_effects(effects, out, to, case, i);
+        i += 1;
     }
     to
 }
 
-fn put_case(kind: u8, effects: &[i16], out: &mut [u8], at: usize, case: usize) -> usize
-    requires { ⌜ (length (now effects) ≡ 1536) × (case < 32) × (at + 181 ≤ length (now out)) ⌝ }
-    ensures { λ r. ⌜ (r ≡ at + length (caseBytes (now (effects .entry)) case kind)) × (now (out .exit) ≡ sets (now (out .entry)) at (caseBytes (now (effects .entry)) case kind)) ⌝ }
+fn put_case(
+    kinds: &[u8; 32],
+    effects: &[i16; 1536],
+    out: &mut [u8],
+    at: usize,
+    case: usize,
+) -> usize
+    requires { ⌜ (case < 32) × (at + caseMost ≤ length (now out)) ⌝ }
+    ensures { λ r. ⌜ Put (now (out .entry)) at (caseBytes (λ k. getD (now (kinds .entry)) k 0) (effectIn (now (effects .entry))) case) r (now (out .exit)) ⌝ }
 {
+    let kind = kinds[case];
     if kind == 0 {
         return at;
     }
     let b = [2u8, 0, 2, case as u8, kind];
-    let start = wire::put_at(out, at, &b);
-    put_stations(effects, out, start, case)
+    let to = wire::put_at(out, at, &b);
+    put_stations(effects, out, to, case)
 }
 
-fn put_cases(kinds: &[u8], effects: &[i16], out: &mut [u8], at: usize) -> usize
-    requires { ⌜ (length (now effects) ≡ 1536) × (at + 5792 ≤ length (now out)) ⌝ }
-    ensures { λ r. ⌜ (r ≡ at + length (upTo (λ case. caseBytes (now (effects .entry)) case (getD (now (kinds .entry)) case 0)) 32)) × (now (out .exit) ≡ sets (now (out .entry)) at (upTo (λ case. caseBytes (now (effects .entry)) case (getD (now (kinds .entry)) case 0)) 32)) ⌝ }
+fn put_cases(kinds: &[u8; 32], effects: &[i16; 1536], out: &mut [u8], at: usize) -> usize
+    requires { ⌜ at + 32 * caseMost ≤ length (now out) ⌝ }
+    ensures { λ r. ⌜ Put (now (out .entry)) at (upTo (caseBytes (λ k. getD (now (kinds .entry)) k 0) (effectIn (now (effects .entry)))) 32) r (now (out .exit)) ⌝ }
 {
     let mut to = at;
-    let mut k = 0;
-    while k < 32 {
-        let kind = wire::byte(kinds, k);
-        to = put_case(kind, effects, out, to, k);
-        k += 1;
+    let mut i = 0;
+    while i < 32 {
+        to = put_case(kinds, effects, out, to, i);
+        i += 1;
     }
     to
 }
 
-fn put_capacity(capacities: &[u16], out: &mut [u8], at: usize, station: usize) -> usize
-    requires { ⌜ (length (now capacities) ≡ 48) × (station < 16) × (at + 10 ≤ length (now out)) ⌝ }
-    ensures { λ r. ⌜ (r ≡ at + length (capacityBytes (now (capacities .entry)) station)) × (now (out .exit) ≡ sets (now (out .entry)) at (capacityBytes (now (capacities .entry)) station)) ⌝ }
+fn put_capacity(capacities: &[u16; 48], out: &mut [u8], at: usize, station: usize) -> usize
+    requires { ⌜ (station < 16) × (at + capacityMost ≤ length (now out)) ⌝ }
+    ensures { λ r. ⌜ Put (now (out .entry)) at (capacityBytes (capacityIn (now (capacities .entry))) station) r (now (out .exit)) ⌝ }
 {
-    let p = station * 3;
-    let n = capacities[p];
+    let n = capacity_in(capacities, station, 0);
     if n == 0 {
         return at;
     }
-    let y = capacities[p + 1];
-    let z = capacities[p + 2];
-    let b = [
-        5u8,
-        0,
-        7,
-        station as u8,
-        (n / 256) as u8,
-        (n % 256) as u8,
-        (y / 256) as u8,
-        (y % 256) as u8,
-        (z / 256) as u8,
-        (z % 256) as u8,
-    ];
-    wire::put_at(out, at, &b)
+    let y = capacity_in(capacities, station, 1);
+    let z = capacity_in(capacities, station, 2);
+    let b = [5u8, 0, 7, station as u8];
+    let to = wire::put_at(out, at, &b);
+    put_words(out, to, n, y, z)
 }
 
-fn put_capacities(capacities: &[u16], out: &mut [u8], at: usize) -> usize
-    requires { ⌜ (length (now capacities) ≡ 48) × (at + 160 ≤ length (now out)) ⌝ }
-    ensures { λ r. ⌜ (r ≡ at + length (upTo (capacityBytes (now (capacities .entry))) 16)) × (now (out .exit) ≡ sets (now (out .entry)) at (upTo (capacityBytes (now (capacities .entry))) 16)) ⌝ }
+fn put_capacities(capacities: &[u16; 48], out: &mut [u8], at: usize) -> usize
+    requires { ⌜ at + 16 * capacityMost ≤ length (now out) ⌝ }
+    ensures { λ r. ⌜ Put (now (out .entry)) at (upTo (capacityBytes (capacityIn (now (capacities .entry)))) 16) r (now (out .exit)) ⌝ }
 {
     let mut to = at;
-    let mut t = 0;
-    while t < 16 {
-        to = put_capacity(capacities, out, to, t);
-        t += 1;
+    let mut i = 0;
+    while i < 16 {
+        to = put_capacity(capacities, out, to, i);
+        i += 1;
     }
     to
 }
 
-fn put_all(sheet: Sheet, out: &mut [u8]) -> usize
-    requires { ⌜ 5958 ≤ length (now out) ⌝ }
-    ensures { λ r. ⌜ (r ≡ length (savedBytes sheet)) × (now (out .exit) ≡ sets (now (out .entry)) 0 (savedBytes sheet)) ⌝ }
+fn put_all(rest: Rest, effects: &[i16; 1536], out: &mut [u8]) -> usize
+    requires { ⌜ savedMost ≤ length (now out) ⌝ }
+    ensures { λ r. ⌜ Put (now (out .entry)) 0 (savedBytes (whole rest (now (effects .entry)))) r (now (out .exit)) ⌝ }
 {
-    let s = sheet.settings;
-    let kinds = sheet.kinds;
-    let effects = sheet.effects;
-    let capacities = sheet.capacities;
+    let s = rest.settings;
+    let kinds = rest.kinds;
+    let capacities = rest.capacities;
     let b = [1u8, 0, 3, s.method, s.live, s.zone];
     let cases = wire::put_at(out, 0, &b);
-    let stations = put_cases(&kinds, &effects, out, cases);
+    let stations = put_cases(&kinds, effects, out, cases);
     put_capacities(&capacities, out, stations)
 }
 
-// Saves a sheet over the front of the output, or refuses with 14 and writes nothing.
-pub fn save(sheet: Sheet, out: &mut [u8]) -> Saved
-    ensures { λ r. ⌜ (r ≡ savedAnswer sheet (length (now (out .entry)))) × (now (out .exit) ≡ savedOver sheet (now (out .entry))) ⌝ }
+// Saves a sheet over the front of the output, or refuses with 14 and writes nothing. The effects are lent.
+pub fn save_in(rest: Rest, effects: &[i16; 1536], out: &mut [u8]) -> Saved
+    ensures { λ r. ⌜ (r ≡ savedAnswer (whole rest (now (effects .entry))) (length (now (out .entry)))) × (now (out .exit) ≡ savedOver (whole rest (now (effects .entry))) (now (out .entry))) ⌝ }
 {
-    let mut buffer = [0u8; 5958];
-    let n = put_all(sheet, &mut buffer);
+    let mut buffer = [0u8; SAVED_MOST];
+    let n = put_all(rest, effects, &mut buffer);
     if out.len() < n {
         return Saved::Refused(14);
     }
     let w = wire::put_at(out, 0, &buffer[..n]);
     Saved::Written(w)
+}
+
+// The same for a whole sheet.
+pub fn save(sheet: Sheet, out: &mut [u8]) -> Saved
+    ensures { λ r. ⌜ (r ≡ savedAnswer sheet (length (now (out .entry)))) × (now (out .exit) ≡ savedOver sheet (now (out .entry))) ⌝ }
+{
+    let effects = sheet.effects;
+    save_in(sheet.rest(), &effects, out)
 }

@@ -8,7 +8,7 @@ use native.Mathlib.Nat.{add-zero, zero-add, le-of-lt}
 use native.Mathlib.Omega.{arith}
 use lib.ListN.{length, getD, set, take, drop, replicate, length-set, length-append}
 use lib.Seq.{sets, sets-eq, length-sets, take-suc, length-take-le, getD-set-other, getD-set-same}
-use Rattle.wire.specs.Bytes.{over}
+use Rattle.wire.specs.Bytes.{over, Put}
 
 module _ {A : Type 0} where
   -- three stores, as code writes them
@@ -74,10 +74,6 @@ module _ {A : Type 0} where
   replicate-all P d a h p zero i = h
   replicate-all P d a h p (suc n) zero = p
   replicate-all P d a h p (suc n) (suc i) = replicate-all P d a h p n i
-
--- w is put into o at i: where it ends, and the output after it
-abbrev pub Put : List ℕ → ℕ → List ℕ → ℕ → List ℕ → Type 0
-Put o i w to out = (to ≡ i + length w) × (out ≡ sets o i w)
 
 pub put-none : (o : List ℕ) (i : ℕ) → Put o i [] i o
 put-none o i = (omega arith, refl)

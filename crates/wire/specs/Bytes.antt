@@ -1,7 +1,9 @@
 -- 01, 'A sheet and its seven fields': bytes of numbers. Multi-byte numbers have the high byte first, signed ones are two's complement.
 use Prim.Native.Nat.{ℕ, _+_, _*_, _/_, _%_}
+use mathlib.Core.Path.{_≡_}
 use mathlib.Core.List.{List, [], _∷_, _++_}
 use lib.ListN.{length, getD, drop}
+use lib.Seq.{sets}
 use lib.IntN.{ℤ}
 use mir.Syntax.{w16, w64}
 use mir.Val.{toZ, ofZ}
@@ -37,3 +39,7 @@ bytes8 n = bytes4 (n / 4294967296) ++ bytes4 (n % 4294967296)
 -- bytes written over the front of an output: later ones stay
 unfoldable pub over : List ℕ → List ℕ → List ℕ
 over w o = w ++ drop (length w) o
+
+-- w is put into o at i: where it ends, and the output after it
+abbrev pub Put : List ℕ → ℕ → List ℕ → ℕ → List ℕ → Type 0
+Put o i w to out = (to ≡ i + length w) × (out ≡ sets o i w)

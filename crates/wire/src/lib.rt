@@ -3,7 +3,7 @@ ghost use mathlib.Core.Path.{_≡_};
 ghost use Prim.Native.Nat.{_+_, _*_, _<_, _≤_};
 ghost use lib.ListN.{length};
 ghost use lib.Seq.{sets};
-ghost use Rattle.wire.specs.Bytes.{byteAt, wordAt, signed16, bits16, bits64, bytes4, bytes8};
+ghost use Rattle.wire.specs.Bytes.{byteAt, wordAt, signed16, bits16, bits64, bytes4, bytes8, Put};
 
 // The byte at a position, 0 past the end.
 pub fn byte(s: &[u8], at: usize) -> u8
@@ -28,7 +28,7 @@ pub fn word(s: &[u8], at: usize) -> u16
 // Writes the bytes from a position on, and says where they end.
 pub fn put_at(out: &mut [u8], at: usize, bytes: &[u8]) -> usize
     requires { ⌜ at + length (now bytes) ≤ length (now out) ⌝ }
-    ensures { λ r. ⌜ (r ≡ at + length (now (bytes .entry))) × (now (out .exit) ≡ sets (now (out .entry)) at (now (bytes .entry))) ⌝ }
+    ensures { λ r. ⌜ Put (now (out .entry)) at (now (bytes .entry)) r (now (out .exit)) ⌝ }
 {
     let mut i = 0;
     while i < bytes.len() {

@@ -1,6 +1,9 @@
 -- `saving::put_case` meets its contract.
 -- Assumes nothing.
+use Prim.Native.Nat.{ℕ}
 use borrow.Author.Needs.{needs}
+use lib.ListN.{getD}
+use Rattle.effects.specs.Effects.{effectIn}
 use Rattle.saving.specs.Saved.{upTo, fillField, stationBytes}
 use Rattle.wire.proofs.Stores.{put-none, put-two}
 use Rattle.saving.proofs.Appending.{case-none, case-some}
@@ -9,39 +12,29 @@ use Rattle.saving.proofs.put_case.Tie as tie
 
 returns : tie.Need-returns
 returns c =
-    let a = c .before .before .args in
-    rw (case-none (a .effects .now) (a .case) (a .kind) (c .if1 .taken)) (put-none (a .out .now) (a .at))
-
-cast-t9 : tie.Need-cast-t9
-cast-t9 c = search needs
-
-slice-aggregate-put-at : tie.Need-slice-aggregate-put-at
-slice-aggregate-put-at c = search needs
-
-put-at-requires : tie.Need-put-at-requires
-put-at-requires c κs = search needs
-
-put-stations-requires : tie.Need-put-stations-requires
-put-stations-requires c κs = search needs
-
-same-length : tie.Need-same-length
-same-length c = search needs
+    let a = c .before .before .before .args in
+    rw (case-none (λ (k : ℕ). getD (a .kinds .now) k 0) (effectIn (a .effects .now)) (a .case) (c .if1 .taken)) (put-none (a .out .now) (a .at))
 
 returns-2 : tie.Need-returns-2
 unfolding fillField
 returns-2 c =
-    let a = c .before .before .before .before .before .before .before .before .before .before .before .args in
-    rw (case-some (a .effects .now) (a .case) (a .kind) (c .before .before .before .before .before .before .before .before .before .if1 .left))
-    (put-two (fillField (a .case) (a .kind)) (upTo (stationBytes (a .effects .now) (a .case)) 16) (a .out .now) (a .at) (c .before .before .before .before .before .before .put-at .ensures) (c .before .before .put-stations .ensures))
+    let w = c .before .before in
+    let p = w .before .before .before .before in
+    let i = p .before .before .before in
+    let a = i .before .before .before .args in
+    let effect = effectIn (a .effects .now) in
+    rw (case-some (λ (k : ℕ). getD (a .kinds .now) k 0) effect (a .case) (i .if1 .left))
+    (put-two (fillField (a .case) (getD (a .kinds .now) (a .case) 0)) (upTo (stationBytes effect (a .case)) 16) (a .out .now) (a .at) (p .put-at .ensures) (w .put-stations .ensures))
 
 pub put-case-spec : {M : Type 1} → statement M
 put-case-spec =
     tie.close
     (tie.spec
+    (λ c. search needs)
     returns
-    cast-t9
-    slice-aggregate-put-at
-    put-at-requires
-    put-stations-requires
-    same-length
+    (λ c. search needs)
+    (λ c. search needs)
+    (λ c κs. search needs)
+    (λ c κs. search needs)
+    (λ c. search needs)
     returns-2)
