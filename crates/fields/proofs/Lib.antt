@@ -3,3 +3,4 @@ pub mod Kept
 pub mod Refused
 pub mod Within
 pub mod Consumed
+pub mod Ready

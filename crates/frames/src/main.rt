@@ -2,11 +2,18 @@
 use sheet::Rest;
 use standard::Settings;
 ghost use mathlib.Core.Path.{_≡_};
-ghost use Prim.Native.Nat.{_≤_, _<_};
-ghost use lib.ListN.{length};
+ghost use mathlib.Core.List.{[], _∷_};
+ghost use mathlib.Core.Bool.{true, not};
+ghost use Prim.Native.Nat.{_+_, _≤_, _<_};
+ghost use lib.ListN.{length, drop};
+ghost use lib.Seq.{slice};
+ghost use Rattle.wire.specs.Bytes.{over};
 ghost use Rattle.sheet.specs.Range.{InRange};
 ghost use Rattle.sheet.specs.Parts.{whole};
-ghost use Rattle.frames.specs.Within.{Within};
+ghost use Rattle.fields.specs.Field.{readField, lastOf};
+ghost use Rattle.lists.specs.Lists.{fieldsOf};
+ghost use Rattle.frames.specs.Within.{Within, ReadAfter};
+ghost use Rattle.frames.specs.Loop.{isNext, starting, answeredOf, Answered, Stepped, Turned};
 
 // The sheet apart from its effects, how far the fields at hand are answered, whether another may be, and whether the service stops.
 pub struct Progress {
@@ -19,8 +26,8 @@ pub struct Progress {
 
 // Answers one field, after the answers that wait in the output.
 fn answer(p: Progress, effects: &mut [i16; 1536], input: &[u8], output: &mut [u8]) -> Progress
-    requires { ⌜ Within (whole (p .rest) (now effects)) (p .consumed) (p .written) (now input) (now output) (now output) ⌝ }
-    ensures { λ r. ⌜ Within (whole (r .rest) (now (effects .exit))) (r .consumed) (r .written) (now (input .entry)) (now (output .entry)) (now (output .exit)) ⌝ }
+    requires { ⌜ Within (whole (p .rest) (now effects)) (p .consumed) (p .written) (now input) (now output) (now output) × (p .written + 37 ≤ length (now output)) ⌝ }
+    ensures { λ r. ⌜ Answered (drop (p .consumed) (now (input .entry)) ∷ []) p (now (effects .entry)) (now (output .entry)) r (now (effects .exit)) (now (output .exit)) × (r .more ≡ not (lastOf (readField (drop (p .consumed) (now (input .entry))) 37 (whole (p .rest) (now (effects .entry))) .answer))) ⌝ }
 {
     let rest = p.rest;
     let consumed = p.consumed;
@@ -34,11 +41,19 @@ fn answer(p: Progress, effects: &mut [i16; 1536], input: &[u8], output: &mut [u8
         consumed: consumed + r.consumed,
         written: written + r.written,
         more: !last,
-        stop: last,
+        stop: p.stop | last,
     }
 }
 
-// Answers the next field where it can be read now and its answer has room. A field that the end of input cuts can be read.
+// Whether a field at the front of the bytes is answered now. One that the end of input cuts is.
+fn is_next(ended: bool, room: usize, bytes: &[u8]) -> bool
+    ensures { λ r. ⌜ r ≡ isNext ended room (now (bytes .entry)) ⌝ }
+{
+    let ready = fields::is_ready(bytes);
+    (0 < bytes.len()) & (ended | ready) & (37 <= room)
+}
+
+// Answers the next field where it can be read now and its answer has room.
 fn step(
     p: Progress,
     effects: &mut [i16; 1536],
@@ -47,12 +62,11 @@ fn step(
     output: &mut [u8],
 ) -> Progress
     requires { ⌜ Within (whole (p .rest) (now effects)) (p .consumed) (p .written) (now input) (now output) (now output) ⌝ }
-    ensures { λ r. ⌜ Within (whole (r .rest) (now (effects .exit))) (r .consumed) (r .written) (now (input .entry)) (now (output .entry)) (now (output .exit)) ⌝ }
+    ensures { λ r. ⌜ Stepped ended (now (input .entry)) p (now (effects .entry)) (now (output .entry)) r (now (effects .exit)) (now (output .exit)) ⌝ }
 {
     let consumed = p.consumed;
     let written = p.written;
-    let ready = fields::is_ready(&input[consumed..]);
-    if (ended | ready) & (37 <= output.len() - written) {
+    if is_next(ended, output.len() - written, &input[consumed..]) {
         return answer(p, effects, input, output);
     }
     let mut q = p;
@@ -68,7 +82,7 @@ fn remaining(more: bool, left: u64) -> u64
     if more { left - 1 } else { 0 }
 }
 
-// Answers the fields at hand. There are fewer of them than bytes, and none is read in no bytes.
+// Answers the fields at hand.
 fn answer_all(
     rest: Rest,
     effects: &mut [i16; 1536],
@@ -77,6 +91,7 @@ fn answer_all(
     output: &mut [u8],
 ) -> Progress
     requires { ⌜ InRange (whole rest (now effects)) × (37 ≤ length (now output)) ⌝ }
+    ensures { λ r. ⌜ Answered (answeredOf ended (length (now (output .entry))) (fieldsOf (now (input .entry))) (whole rest (now (effects .entry)))) (starting rest) (now (effects .entry)) (now (output .entry)) r (now (effects .exit)) (now (output .exit)) ⌝ }
     ensures { λ r. ⌜ Within (whole (r .rest) (now (effects .exit))) (r .consumed) (r .written) (now (input .entry)) (now (output .entry)) (now (output .exit)) ⌝ }
 {
     let mut p = Progress {
@@ -86,10 +101,8 @@ fn answer_all(
         more: true,
         stop: false,
     };
-    let mut left = input.len() as u64;
-    while left > 0 {
+    while p.more {
         p = step(p, effects, ended, input, output);
-        left = remaining(p.more, left);
     }
     p
 }
@@ -97,7 +110,7 @@ fn answer_all(
 // Moves the bytes between two places down to the start.
 fn shift(buffer: &mut [u8], from: usize, to: usize)
     requires { ⌜ (from ≤ to) × (to ≤ length (now buffer)) ⌝ }
-    ensures { λ _. ⌜ length (now (buffer .exit)) ≡ length (now (buffer .entry)) ⌝ }
+    ensures { λ _. ⌜ now (buffer .exit) ≡ over (slice from to (now (buffer .entry))) (now (buffer .entry)) ⌝ }
 {
     if from == 0 {
         return;
@@ -137,7 +150,9 @@ fn write_some(bytes: &[u8], count: usize) -> Moved
 }
 
 // Writes the bytes and says whether all are written: they are not where the output is closed or full.
-fn write_all(bytes: &[u8]) -> bool {
+fn write_all(bytes: &[u8]) -> bool
+    ensures { λ r. ⌜ (length (now (bytes .entry)) ≡ 0 → r ≡ true) ⌝ }
+{
     if bytes.len() == 0 {
         return true;
     }
@@ -157,7 +172,7 @@ fn write_all(bytes: &[u8]) -> bool {
 // Reads more bytes after those held, unless a field can be read already. No more follow the end of input or a failed call.
 fn read_some(input: &mut [u8], held: usize) -> Moved
     requires { ⌜ held ≤ length (now input) ⌝ }
-    ensures { λ r. ⌜ (r .count ≤ length (now (input .entry))) × (length (now (input .exit)) ≡ length (now (input .entry))) ⌝ }
+    ensures { λ r. ⌜ ReadAfter held (r .count) (r .more) (now (input .entry)) (now (input .exit)) ⌝ }
 {
     if fields::is_ready(&input[0..held]) {
         return Moved {
@@ -189,6 +204,7 @@ pub struct Service {
 // One read at most, the answers to the fields that are then at hand, and one write of them.
 fn turn(s: Service, effects: &mut [i16; 1536], input: &mut [u8], output: &mut [u8]) -> Service
     requires { ⌜ InRange (whole (s .rest) (now effects)) × (s .held ≤ length (now input)) × (37 ≤ length (now output)) ⌝ }
+    ensures { λ r. ⌜ Turned s (now (effects .entry)) (now (input .entry)) (now (output .entry)) r (now (effects .exit)) (now (input .exit)) (now (output .exit)) ⌝ }
     ensures { λ r. ⌜ InRange (whole (r .rest) (now (effects .exit))) × (r .held ≤ length (now (input .entry))) × (length (now (input .exit)) ≡ length (now (input .entry))) × (length (now (output .exit)) ≡ length (now (output .entry))) ⌝ }
 {
     let rest = s.rest;

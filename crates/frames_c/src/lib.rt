@@ -6,12 +6,13 @@ use sheet::Sheet;
 use standard::Settings;
 ghost use mathlib.Core.Path.{_≡_};
 ghost use mathlib.Core.Bool.{true, false};
-ghost use Prim.Native.Nat.{_+_, _*_, _≤_, _<_};
-ghost use lib.ListN.{length, drop};
+ghost use Prim.Native.Nat.{_+_, _<_};
+ghost use lib.ListN.{length};
 ghost use Rattle.sheet.specs.Sheet.{zeros};
 ghost use Rattle.sheet.specs.Parts.{whole};
 ghost use Rattle.sheet.specs.Range.{InRange};
-ghost use Rattle.frames_c.specs.Lists.{fieldsOf, refusalOf, loaded, dueState, short, AnswerDone, RunDone};
+ghost use Rattle.lists.specs.Lists.{fieldsOf};
+ghost use Rattle.frames_c.specs.Lists.{refusalOf, loaded, dueState, short, AnswerDone, RunDone};
 ghost use Rattle.frames_c.specs.Loop.{starting, advanced, steppedAll, stateOf, Room, Reached, Stepped, countOf};
 
 // The refusal's number, or 0, and how many bytes were written and saved.

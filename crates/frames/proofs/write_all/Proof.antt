@@ -1,6 +1,7 @@
--- The count of bytes written stays within the bytes.
+-- The count of bytes written stays within the bytes, and none are written where there are none.
 -- Assumes nothing.
 use Prim.Native.Nat.{_≤_}
+use mathlib.Core.Path.{refl}
 use lib.ListN.{length}
 use borrow.Author.Needs.{needs}
 use Rattle.frames.proofs.write_all.Statement.{statement}
@@ -13,7 +14,7 @@ abbrev μ-loop : tie.MeasureT-loop
 μ-loop bytes m₀ left₀ m left = left
 
 returns : tie.Need-returns Inv-loop μ-loop
-returns c = search needs
+returns c = λ _. refl
 
 loop-holds : tie.Need-loop-holds Inv-loop μ-loop
 loop-holds c = search needs
@@ -31,7 +32,7 @@ loop-again : tie.Need-loop-again Inv-loop μ-loop
 loop-again c = search needs
 
 returns-2 : tie.Need-returns-2 Inv-loop μ-loop
-returns-2 c = search needs
+returns-2 c = λ e. absurd (c .before .before .before .if1 .left e)
 
 pub write-all-spec : {M : Type 1} → statement M
 write-all-spec =
