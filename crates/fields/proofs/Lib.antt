@@ -4,3 +4,4 @@ pub mod Refused
 pub mod Within
 pub mod Consumed
 pub mod Ready
+pub mod Last

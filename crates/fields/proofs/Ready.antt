@@ -1,4 +1,5 @@
--- A field that can be read now is read the same whatever bytes follow it. Only a 3 consumes them too.
+-- A field that can be read now is read the same whatever bytes follow it, and only a 3 consumes them too. One that cannot takes all
+-- the bytes.
 -- Assumes nothing.
 use Prim.Native.Nat.{ℕ, _+_, _-_, _≤_}
 use mathlib.Core.Path.{_≡_, refl, sym, _∙_, ap}
@@ -15,7 +16,7 @@ use Rattle.sheet.specs.declared.Sheet.{Sheet}
 use Rattle.fields.specs.declared.Header.{Header}
 use Rattle.fields.specs.declared.Header.the-variants.{Field, Short}
 use Rattle.fields.specs.declared.Reading.{Reading}
-use Rattle.fields.specs.Field.{headerOf, lastOf, readHeader, readField, readyOf}
+use Rattle.fields.specs.Field.{headerOf, consumedOf, consumedBy, lastOf, readHeader, readField, readyOf}
 use Rattle.fields.proofs.Laws.{header-fits}
 
 -- the second reading has the first one's answer and sheet, and consumes as much unless it is a 3
@@ -44,7 +45,7 @@ module _ (s t : List ℕ) where
   word-same : 3 ≤ length s → wordAt (s ++ t) 1 ≡ wordAt s 1
   word-same h = rw (byte-same 1 (omega arith), byte-same 2 (omega arith))
 
-  header-same : readyOf s ≡ true → headerOf (s ++ t) ≡ headerOf s
+  pub header-same : readyOf s ≡ true → headerOf (s ++ t) ≡ headerOf s
   unfolding headerOf readyOf
   header-same e =
       let x = ready-tests (ltb (length s) 3) (ltb 60000 (wordAt s 1)) (ltb (length s - 3) (wordAt s 1)) e in
@@ -77,3 +78,15 @@ module _ (s t : List ℕ) where
   pub ready-same : (room : ℕ) (sheet : Sheet) → readyOf s ≡ true → SameReading (readField s room sheet) (readField (s ++ t) room sheet)
   unfolding readField
   ready-same room sheet e = by-room (ltb room 37) _ _ _ (rw (header-same e) (header-read (headerOf s) sheet refl))
+
+cut-tests : (a b c : Bool) (h : Header) → cond a false (cond b true (cond c false true)) ≡ false → cond a Short (cond b Short (cond c Short h)) ≡ Short
+cut-tests true b c h e = refl
+cut-tests false true c h e = refl
+cut-tests false false true h e = refl
+cut-tests false false false h e = absurd (let z : _≡_ {A = ℕ} 0 1 = cc in omega arith)
+
+pub cut-all : (s : List ℕ) → readyOf s ≡ false → consumedBy s ≡ length s
+unfolding headerOf readyOf
+cut-all s e =
+    ap (λ (h : Header). consumedOf h s)
+    (cut-tests (ltb (length s) 3) (ltb 60000 (wordAt s 1)) (ltb (length s - 3) (wordAt s 1)) (Field (byteAt s 0) (wordAt s 1)) e)

@@ -1,6 +1,2 @@
-pub mod Moves
-pub mod Fields
-pub mod Going
-pub mod Ends
 pub mod Turns
-pub mod Streams
+pub mod Serving

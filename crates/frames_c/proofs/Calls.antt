@@ -8,19 +8,17 @@ use mathlib.Core.Logic.{⊎-elim}
 use native.Mathlib.Nat.{zero-add}
 use native.Mathlib.Omega.{arith}
 use borrow.Author.Tests.{le-ltb, lt-ltb, ltb-false, ne-eqb}
-use lib.ListN.{length, replicate}
+use lib.ListN.{length}
 use lib.Dec.{ltb}
 use lib.IntN.{ℤ}
 use Rattle.wire.specs.Bytes.{over}
 use Rattle.wire.proofs.Cases.{lt-or-ge}
 use Rattle.wire.proofs.Stores.{front}
 use Rattle.sheet.specs.declared.Sheet.{Sheet}
-use Rattle.sheet.specs.declared.Rest.{Rest}
-use Rattle.sheet.specs.Sheet.{zeros, fresh, freshSheet}
-use Rattle.sheet.specs.Edits.{dueSettings}
+use Rattle.sheet.specs.Sheet.{freshSheet}
 use Rattle.sheet.specs.Range.{InRange}
 use Rattle.sheet.specs.Parts.{whole}
-use Rattle.sheet.proofs.Kept.{fresh-in-range}
+use Rattle.sheet.proofs.Kept.{fresh-kept}
 use Rattle.saving.specs.Saved.{savedBytes, savedAnswer, savedOver}
 use Rattle.saving.specs.declared.Saved.{Saved}
 use Rattle.saving.proofs.Lengths.{saved-most}
@@ -30,18 +28,6 @@ use Rattle.lists.proofs.Joins.{kept-after, answers-long}
 use Rattle.frames_c.specs.Lists.{loaded, dueState, short, dueAnswer, dueRun, AnswerDone, RunDone}
 use Rattle.frames_c.specs.Loop.{State, starting, steppedAll, stateOf, Room, countOf}
 use Rattle.frames_c.proofs.Loop.{sheet-after, refusal-after, written-after, output-after}
-
-pub fresh-kept : InRange freshSheet
-unfolding dueSettings
-fresh-kept = fresh-in-range (record { method = 1; live = 0; zone = 0 }) refl
-
--- a fresh sheet apart from its effects
-abbrev pub freshRest : Rest
-freshRest = record { settings = record { method = 1; live = 0; zone = 0 }; kinds = replicate 32 0; capacities = replicate 48 0 }
-
-pub fresh-whole : {effects : List ℤ} → effects ≡ zeros 1536 → whole freshRest effects ≡ freshSheet
-unfolding fresh
-fresh-whole e = rw e
 
 -- the end of the loop over a state, and over the fields of a call
 pub load-is : (state : List ℕ) (p : Progress) (effects : List ℤ) (o : List ℕ) {o′ : List ℕ} →

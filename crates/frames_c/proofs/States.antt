@@ -8,6 +8,7 @@ use lib.ListN.{length, drop, length-drop}
 use Rattle.sheet.specs.declared.Sheet.{Sheet}
 use Rattle.sheet.specs.Sheet.{freshSheet}
 use Rattle.sheet.specs.Range.{InRange}
+use Rattle.sheet.proofs.Kept.{fresh-kept}
 use Rattle.fields.specs.Field.{readField}
 use Rattle.fields.specs.Readings.{ReadThrough, end, field}
 use Rattle.fields.proofs.Consumed.{read-consumed, consumed-some}
@@ -17,7 +18,6 @@ use Rattle.lists.specs.Lists.{fieldsFrom, fieldsOf, sheetAfter, answersTo}
 use Rattle.lists.proofs.Left.{no-fields}
 use Rattle.lists.proofs.Joins.{kept-after}
 use Rattle.frames_c.specs.Lists.{firstRefusal, loaded, dueState, savedAfter}
-use Rattle.frames_c.proofs.Calls.{fresh-kept}
 
 -- every field of the list is accepted, and they lead to the sheet
 abbrev Accepted : List (List ℕ) → Sheet → Sheet → Type 0

@@ -2,8 +2,6 @@
 use saving::Saved;
 use sheet::Answer;
 use sheet::Rest;
-use sheet::Sheet;
-use standard::Settings;
 ghost use mathlib.Core.Path.{_≡_};
 ghost use mathlib.Core.Bool.{true, false};
 ghost use Prim.Native.Nat.{_+_, _<_};
@@ -119,16 +117,7 @@ fn load(effects: &mut [i16; 1536], state: &[u8]) -> Progress
     ensures { λ r. ⌜ (whole (r .rest) (now (effects .exit)) ≡ loaded (now (state .entry))) × (r .refusal ≡ dueState (now (state .entry))) × InRange (whole (r .rest) (now (effects .exit))) ⌝ }
 {
     let mut answer = [0u8; 37];
-    let settings = Settings {
-        method: 1,
-        live: 0,
-        zone: 0,
-    };
-    let rest = Rest {
-        settings,
-        kinds: [0u8; 32],
-        capacities: [0u16; 48],
-    };
+    let rest = Rest::fresh(sheet::fresh_settings());
     read_all(rest, false, effects, state, &mut answer)
 }
 

@@ -5,7 +5,7 @@ use mathlib.Core.Path.{_≡_, refl, sym, _∙_, ap}
 use mathlib.Core.List.{List, [], _∷_}
 use native.Mathlib.Omega.{arith}
 use lib.ListN.{length, drop, length-drop, drop-of-length-le}
-use lib.Seq.{drop-drop}
+use lib.Seq.{drop-drop, drop-length}
 use Rattle.fields.specs.Field.{consumedBy}
 use Rattle.fields.proofs.Consumed.{consumed-within, consumed-some}
 use Rattle.lists.specs.Lists.{fieldsFrom, fieldsOf}
@@ -91,3 +91,10 @@ first-field (b ∷ bs) g =
     let l : length (drop (consumedBy w) w) ≡ length w - consumedBy w = length-drop (consumedBy w) w in
     ap (λ (fs : List (List ℕ)). w ∷ fs)
     (same-fields (length bs) (length (drop (consumedBy w) w)) (drop (consumedBy w) w) (omega arith) (omega arith))
+
+-- one that takes all the bytes is the only one
+pub only-field : (w : List ℕ) → 0 < length w → consumedBy w ≡ length w → fieldsOf w ≡ w ∷ []
+unfolding fieldsFrom
+only-field w g e =
+    let d : drop (consumedBy w) w ≡ [] = ap (λ (n : ℕ). drop n w) e ∙ drop-length w in
+    first-field w g ∙ ap (λ (v : List ℕ). w ∷ fieldsOf v) d

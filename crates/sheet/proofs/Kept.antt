@@ -1,7 +1,7 @@
 -- A fresh sheet is in range, and each field keeps a sheet so.
 -- Assumes nothing.
 use Prim.Native.Nat.{ℕ, zero, suc, _≤_, _<_, zero-le}
-use mathlib.Core.Path.{_≡_, sym, _∙_}
+use mathlib.Core.Path.{_≡_, refl, sym, _∙_}
 use mathlib.Core.List.{List, [], _∷_}
 use mathlib.Core.Bool.{true, false}
 use mathlib.Core.Logic.{⊎-elim, inl, inr}
@@ -15,7 +15,7 @@ use Rattle.wire.specs.Bytes.{signed16}
 use Rattle.wire.proofs.Cases.{either, eq-or-ne}
 use Rattle.wire.proofs.Stores.{set-keep, sets-keep, replicate-all}
 use Rattle.sheet.specs.declared.Sheet.{Sheet}
-use Rattle.sheet.specs.Sheet.{kindAt, effectAt, capacityAt, place, cleared, fresh, withKind, withEffects, withCapacities}
+use Rattle.sheet.specs.Sheet.{kindAt, effectAt, capacityAt, place, cleared, fresh, freshSettings, freshSheet, withKind, withEffects, withCapacities}
 use Rattle.sheet.specs.Edits.{dueSettings, dueFill, dueEffects, dueEmpty, dueCapacities, tried}
 use Rattle.sheet.specs.Range.{InRange, Whole}
 use Rattle.sheet.proofs.Refusals.{fill-range, effects-range, empty-range, capacities-range}
@@ -38,6 +38,10 @@ fresh-in-range settings e =
       empty-zero = λ k t j _ _ _ _. fresh-effect settings k t j;
       capacities-whole = λ t _. inl (fresh-capacity settings t 0, fresh-capacity settings t 1, fresh-capacity settings t 2);
     }
+
+pub fresh-kept : InRange freshSheet
+unfolding dueSettings
+fresh-kept = fresh-in-range freshSettings refl
 
 -- a place that is filled or emptied
 cleared-within : (l : List ℤ) (k n i : ℕ) → Within (getD l i (pos 0)) → Within (getD (cleared l k n) i (pos 0))

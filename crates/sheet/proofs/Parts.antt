@@ -1,4 +1,5 @@
--- Fields on a sheet apart from its effects: the edit where no refusal is due, else all as it was; and effects all set to 0.
+-- A sheet apart from its effects: a fresh one; fields on it, the edit where no refusal is due, else all as it was; effects all set
+-- to 0.
 -- Assumes nothing.
 use Prim.Native.Nat.{ℕ, _+_, _≤_, _<_}
 use mathlib.Core.Path.{_≡_, refl, _∙_, ap}
@@ -9,13 +10,19 @@ use lib.IntN.{ℤ, pos}
 use lib.ListN.{length, getD, set, take, drop, replicate, length-replicate, getD-replicate, drop-of-length-le}
 use lib.Seq.{sets, sets-eq, take-all}
 use Rattle.wire.proofs.Stores.{sets-more}
+use Rattle.standard.specs.declared.Settings.{Settings}
 use Rattle.sheet.specs.declared.Sheet.{Sheet}
 use Rattle.sheet.specs.declared.Answered.{Answered}
 use Rattle.sheet.specs.declared.Answer.the-variants as answer
-use Rattle.sheet.specs.Sheet.{zeros}
+use Rattle.sheet.specs.Sheet.{zeros, fresh}
 use Rattle.sheet.specs.Edits.{tried}
+use Rattle.sheet.specs.Parts.{restOf, whole}
 use Rattle.sheet.specs.Looks.{edited}
 use Rattle.sheet.proofs.Refusals.{tried-none, tried-due, answered-due}
+
+pub fresh-whole : (settings : Settings) {effects : List ℤ} → effects ≡ zeros 1536 → whole (restOf (fresh settings)) effects ≡ fresh settings
+unfolding fresh
+fresh-whole settings e = rw e
 
 pub part-none : (d : ℕ) (s s′ : Sheet) {x : Sheet} → d ≡ 0 → x ≡ s′ → _≡_ {A = Answered} (record { answer = answer.Accepted; sheet = x }) (edited (tried d s s′))
 part-none d s s′ e f = ap edited (tried-none d s s′ e f)

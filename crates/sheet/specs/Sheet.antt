@@ -38,8 +38,11 @@ unfoldable pub fresh : Settings → Sheet
 fresh settings = record { settings = settings; kinds = replicate 32 0; effects = zeros 1536; capacities = replicate 48 0 }
 
 -- a fresh sheet has method 1, live option 0, zone 0
+abbrev pub freshSettings : Settings
+freshSettings = record { method = 1; live = 0; zone = 0 }
+
 abbrev pub freshSheet : Sheet
-freshSheet = fresh (record { method = 1; live = 0; zone = 0 })
+freshSheet = fresh freshSettings
 
 -- the effects with those of a case at the stations below n set to 0
 unfoldable pub cleared : List ℤ → ℕ → ℕ → List ℤ

@@ -7,7 +7,7 @@ ghost use mathlib.Core.List.{List, [], _∷_};
 ghost use mathlib.Core.Bool.{cond};
 ghost use Prim.Native.Nat.{_+_, _*_, _<_};
 ghost use Rattle.wire.specs.Bytes.{signed16};
-ghost use Rattle.sheet.specs.Sheet.{zeros, fresh, cleared, withKind, withEffects, withCapacities, capacityAt};
+ghost use Rattle.sheet.specs.Sheet.{zeros, fresh, freshSettings, cleared, withKind, withEffects, withCapacities, capacityAt};
 ghost use Rattle.sheet.specs.Range.{InRange};
 ghost use Rattle.sheet.specs.Looks.{extremesAt, utilisationAt, unlessDue, edited, dueExtremes, dueUtilisation, dueUtilisationAt, lookedExtremes, lookedUtilisation};
 ghost use Rattle.sheet.specs.Parts.{restOf, whole, wholeOf};
@@ -146,6 +146,17 @@ fn clear_case(effects: &mut [i16; 1536], case: usize)
         effects[at + 1] = 0;
         effects[at + 2] = 0;
         t += 1;
+    }
+}
+
+// The settings of the sheet that a program starts from.
+pub fn fresh_settings() -> Settings
+    ensures { λ r. ⌜ r ≡ freshSettings ⌝ }
+{
+    Settings {
+        method: 1,
+        live: 0,
+        zone: 0,
     }
 }
 
@@ -311,6 +322,17 @@ impl AnsweredRest {
 }
 
 impl Rest {
+    // A fresh sheet apart from its effects.
+    pub fn fresh(settings: Settings) -> Rest
+        ensures { λ r. ⌜ r ≡ restOf (fresh settings) ⌝ }
+    {
+        Rest {
+            settings,
+            kinds: [0u8; 32],
+            capacities: [0u16; 48],
+        }
+    }
+
     // The whole sheet.
     pub fn with_effects(self, effects: [i16; 1536]) -> Sheet
         ensures { λ r. ⌜ r ≡ whole self effects ⌝ }

@@ -6,7 +6,7 @@ use native.Mathlib.Omega.{arith}
 use borrow.Author.Tests.{ltb-false}
 use lib.ListN.{length}
 use borrow.Rule.Slice.PartMut.{take-put}
-use Rattle.frames.proofs.Ends.{not-ready}
+use Rattle.frames.proofs.Turns.{not-ready}
 use borrow.Author.Needs.{needs}
 use Rattle.frames.proofs.read_some.Statement.{statement}
 use Rattle.frames.proofs.read_some.Tie as tie

@@ -47,12 +47,13 @@ same-length-2 c = search needs
 
 returns : tie.Need-returns
 returns c =
-    let a = c .before .before .before .before .before .before .before .before .before .before .before .before in
+    let w = c .before .before .before .before .before .before .before .before in
+    let a = w .before .before .before .before .before in
     let q = a .before .before .before .before .before .before .before .before in
     let s = q .before .before .before .before .before in (
-      turned (s .args .s) (s .args .effects .now) (s .args .input .now) (s .args .output .now) (q .read-some .result .more) (s .pre .2) (q .read-some .ensures) (a .answer-all .ensures .0)
-          (c .before .before .before .before .before .before .before .write-all .ensures) (c .before .before .before .before .before .shift .ensures),
-      (a .answer-all .ensures .1 .in-range, omega (arith, q .read-some .ensures .most), search needs, search needs),
+      turned (s .args .s) (s .args .effects .now) (s .args .input .now) (s .args .output .now) (q .read-some .result .more) (s .pre .2) (q .read-some .ensures)
+          (a .answer-all .ensures .0) (a .answer-all .ensures .1 .written) (w .write-all .ensures) (c .before .before .before .before .before .before .shift .ensures),
+      (a .answer-all .ensures .1 .in-range, omega (arith, q .read-some .ensures .most), same-length c, search needs),
     )
 
 pub turn-spec : {M : Type 1} → statement M
