@@ -22,10 +22,10 @@ use Rattle.sheet.specs.declared.Sheet.{Sheet}
 use Rattle.sheet.specs.declared.Answer.the-variants as answer
 use Rattle.sheet.specs.declared.Answered.{Answered}
 use Rattle.sheet.specs.Sheet.{freshSheet, kindAt, effectAt, capacityAt}
-use Rattle.refusals.specs.Refusals.{dueSettings, dueExtremes, dueUtilisationAt}
 use Rattle.sheet.specs.Looks.{stationEffects, capacitiesAt, extremesAt, utilisationAt, lookedExtremes, lookedUtilisation}
+use Rattle.refusals.specs.Refusals.{dueExtremes, dueUtilisationAt}
 use Rattle.sheet.specs.Range.{InRange}
-use Rattle.sheet.proofs.Kept.{fresh-in-range}
+use Rattle.sheet.proofs.Kept.{fresh-kept}
 use Rattle.refusals.proofs.Fits.{settings-range}
 use Rattle.sheet.proofs.Stations.{effect-seen}
 use Rattle.fields.specs.declared.Reading.{Reading}
@@ -36,7 +36,7 @@ use Rattle.fields.proofs.Refused.{refused-unchanged}
 use Rattle.fields.proofs.Within.{within}
 use Rattle.saving.proofs.Framing.{front-read}
 use Rattle.saving.proofs.RoundTrip.{round-trip, read-unique, same-bytes}
-use Rattle.demands.specs.Demands.{Given, sheetAfter, Made, ReadOn, Readings, none, next, given, worksOut, Demand1, Demand2, lookExtremes, lookUtilisation, ExtremesAnswered, UtilisationAnswered, Demand3}
+use Rattle.demands.specs.Demands.{Given, sheetFrom, Made, ReadOn, Readings, none, next, given, worksOut, Demand1, Demand2, lookExtremes, lookUtilisation, ExtremesAnswered, UtilisationAnswered, Demand3}
 
 -- ---- a factored effect depends on the effects of the 32 cases alone
 sum-agrees : (n : ℕ) (f g : ℕ → ℤ) → ((k : ℕ) → k < n → f k ≡ g k) → sumℤ n f ≡ sumℤ n g
@@ -167,19 +167,18 @@ module _ (w : Sheet) (h : InRange w) where
   third = record { extremes = extremes-answered; utilisation = utilisation-answered }
 
 -- ---- any list of readings
-after-in-range : (s : Sheet) (gs : List Given) → InRange s → InRange (sheetAfter s gs)
-unfolding sheetAfter
+after-in-range : (s : Sheet) (gs : List Given) → InRange s → InRange (sheetFrom s gs)
+unfolding sheetFrom
 after-in-range s [] h = h
 after-in-range s (g ∷ gs) h = after-in-range _ gs (read-kept (g .input) (g .room) s h)
 
-works-out : {s s′ : Sheet} {ms : List Made} → Readings s ms s′ → s′ ≡ sheetAfter s (map given ms)
-unfolding sheetAfter
+works-out : {s s′ : Sheet} {ms : List Made} → Readings s ms s′ → s′ ≡ sheetFrom s (map given ms)
+unfolding sheetFrom
 works-out none = refl
-works-out (next {m} {ms} f r) = works-out r ∙ ap (λ (x : Reading). sheetAfter (x .sheet) (map given ms)) (f .reading)
+works-out (next {m} {ms} f r) = works-out r ∙ ap (λ (x : Reading). sheetFrom (x .sheet) (map given ms)) (f .reading)
 
 worked-in-range : (ms : List Made) → InRange (worksOut ms)
-unfolding dueSettings
-worked-in-range ms = after-in-range freshSheet (map given ms) (fresh-in-range (record { method = 1; live = 0; zone = 0 }) refl)
+worked-in-range ms = after-in-range freshSheet (map given ms) fresh-kept
 
 -- what holds of the sheet worked out, held by the service
 module _ (ms : List Made) {s : Sheet} (r : Readings freshSheet ms s) where

@@ -25,9 +25,9 @@ pub record Given : Type 0 where
   pub room : ℕ
 
 -- the sheet that the definitions work out from what is given, and from nothing else
-unfoldable pub sheetAfter : Sheet → List Given → Sheet
-sheetAfter s [] = s
-sheetAfter s (g ∷ gs) = sheetAfter (readField (g .input) (g .room) s .sheet) gs
+unfoldable pub sheetFrom : Sheet → List Given → Sheet
+sheetFrom s [] = s
+sheetFrom s (g ∷ gs) = sheetFrom (readField (g .input) (g .room) s .sheet) gs
 
 -- a reading that was made: its bytes, the output before it, what it returned, and the output after it
 pub record Made : Type 0 where
@@ -50,7 +50,7 @@ given m = record { input = m .input; room = length (m .out) }
 
 -- the sheet worked out from a list of readings, the first on a fresh sheet
 abbrev pub worksOut : List Made → Sheet
-worksOut ms = sheetAfter freshSheet (map given ms)
+worksOut ms = sheetFrom freshSheet (map given ms)
 
 -- Demand 1, of the readings that may follow: w is the sheet worked out, s the sheet returned.
 pub record Demand1 (w s : Sheet) : Type 0 where

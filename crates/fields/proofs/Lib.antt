@@ -3,3 +3,5 @@ pub mod Kept
 pub mod Refused
 pub mod Within
 pub mod Consumed
+pub mod Ready
+pub mod Last

@@ -1,113 +1,22 @@
 // Reads tagged fields from standard input and writes one answer field for each, as soon as the field is complete.
 use sheet::Rest;
-use standard::Settings;
 ghost use mathlib.Core.Path.{_≡_};
-ghost use Prim.Native.Nat.{_≤_, _<_};
-ghost use lib.ListN.{length};
+ghost use mathlib.Core.Bool.{true, cond};
+ghost use Prim.Native.Nat.{_-_, _≤_, _<_};
+ghost use lib.ListN.{length, take};
+ghost use Rattle.effects.specs.Effects.{zeros};
+ghost use Rattle.sheet.specs.Sheet.{freshSheet};
 ghost use Rattle.sheet.specs.Range.{InRange};
 ghost use Rattle.sheet.specs.Parts.{whole};
-ghost use Rattle.frames.specs.Within.{Within};
-
-// The sheet apart from its effects, how far the fields at hand are answered, whether another may be, and whether the service stops.
-pub struct Progress {
-    pub rest: Rest,
-    pub consumed: usize,
-    pub written: usize,
-    pub more: bool,
-    pub stop: bool,
-}
-
-// Answers one field, after the answers that wait in the output.
-fn answer(p: Progress, effects: &mut [i16; 1536], input: &[u8], output: &mut [u8]) -> Progress
-    requires { ⌜ Within (whole (p .rest) (now effects)) (p .consumed) (p .written) (now input) (now output) (now output) ⌝ }
-    ensures { λ r. ⌜ Within (whole (r .rest) (now (effects .exit))) (r .consumed) (r .written) (now (input .entry)) (now (output .entry)) (now (output .exit)) ⌝ }
-{
-    let rest = p.rest;
-    let consumed = p.consumed;
-    let written = p.written;
-    let r = fields::read_in(rest, effects, &input[consumed..], &mut output[written..]);
-    let next = r.rest;
-    let a = r.answer;
-    let last = fields::is_last(a);
-    Progress {
-        rest: next,
-        consumed: consumed + r.consumed,
-        written: written + r.written,
-        more: !last,
-        stop: last,
-    }
-}
-
-// Answers the next field where it can be read now and its answer has room. A field that the end of input cuts can be read.
-fn step(
-    p: Progress,
-    effects: &mut [i16; 1536],
-    ended: bool,
-    input: &[u8],
-    output: &mut [u8],
-) -> Progress
-    requires { ⌜ Within (whole (p .rest) (now effects)) (p .consumed) (p .written) (now input) (now output) (now output) ⌝ }
-    ensures { λ r. ⌜ Within (whole (r .rest) (now (effects .exit))) (r .consumed) (r .written) (now (input .entry)) (now (output .entry)) (now (output .exit)) ⌝ }
-{
-    let consumed = p.consumed;
-    let written = p.written;
-    let ready = fields::is_ready(&input[consumed..]);
-    if (ended | ready) & (37 <= output.len() - written) {
-        return answer(p, effects, input, output);
-    }
-    let mut q = p;
-    q.more = false;
-    q
-}
+ghost use Rattle.stream.specs.Turns.{Turned, Served};
+ghost use Rattle.frames.specs.Filled.{Filled};
 
 // The turns left after one: a loop ends where it is not to go on.
 fn remaining(more: bool, left: u64) -> u64
     requires { ⌜ 0 < left ⌝ }
-    ensures { λ r. ⌜ r < left ⌝ }
+    ensures { λ r. ⌜ (r < left) × (r ≡ cond more (left - 1) 0) ⌝ }
 {
     if more { left - 1 } else { 0 }
-}
-
-// Answers the fields at hand. There are fewer of them than bytes, and none is read in no bytes.
-fn answer_all(
-    rest: Rest,
-    effects: &mut [i16; 1536],
-    ended: bool,
-    input: &[u8],
-    output: &mut [u8],
-) -> Progress
-    requires { ⌜ InRange (whole rest (now effects)) × (37 ≤ length (now output)) ⌝ }
-    ensures { λ r. ⌜ Within (whole (r .rest) (now (effects .exit))) (r .consumed) (r .written) (now (input .entry)) (now (output .entry)) (now (output .exit)) ⌝ }
-{
-    let mut p = Progress {
-        rest,
-        consumed: 0,
-        written: 0,
-        more: true,
-        stop: false,
-    };
-    let mut left = input.len() as u64;
-    while left > 0 {
-        p = step(p, effects, ended, input, output);
-        left = remaining(p.more, left);
-    }
-    p
-}
-
-// Moves the bytes between two places down to the start.
-fn shift(buffer: &mut [u8], from: usize, to: usize)
-    requires { ⌜ (from ≤ to) × (to ≤ length (now buffer)) ⌝ }
-    ensures { λ _. ⌜ length (now (buffer .exit)) ≡ length (now (buffer .entry)) ⌝ }
-{
-    if from == 0 {
-        return;
-    }
-    let n = to - from;
-    let mut i = 0;
-    while i < n {
-        buffer[i] = buffer[from + i];
-        i += 1;
-    }
 }
 
 // How many bytes a call has moved so far, and whether another call is to follow.
@@ -136,10 +45,18 @@ fn write_some(bytes: &[u8], count: usize) -> Moved
     }
 }
 
-// Writes the bytes and says whether all are written: they are not where the output is closed or full.
-fn write_all(bytes: &[u8]) -> bool {
-    if bytes.len() == 0 {
-        return true;
+// How many bytes were handed on, and whether all of them are written: they are not where the output is closed or full.
+pub struct Sent {
+    pub given: usize,
+    pub all: bool,
+}
+
+fn write_all(bytes: &[u8]) -> Sent
+    ensures { λ r. ⌜ (r .given ≡ length (now (bytes .entry))) × (length (now (bytes .entry)) ≡ 0 → r .all ≡ true) ⌝ }
+{
+    let given = bytes.len();
+    if given == 0 {
+        return Sent { given, all: true };
     }
     let mut m = Moved {
         count: 0,
@@ -151,15 +68,18 @@ fn write_all(bytes: &[u8]) -> bool {
         m = write_some(bytes, count);
         left = remaining(m.more, left);
     }
-    m.count == bytes.len()
+    Sent {
+        given,
+        all: m.count == given,
+    }
 }
 
 // Reads more bytes after those held, unless a field can be read already. No more follow the end of input or a failed call.
 fn read_some(input: &mut [u8], held: usize) -> Moved
     requires { ⌜ held ≤ length (now input) ⌝ }
-    ensures { λ r. ⌜ (r .count ≤ length (now (input .entry))) × (length (now (input .exit)) ≡ length (now (input .entry))) ⌝ }
+    ensures { λ r. ⌜ Filled held (r .count) (r .more) (now (input .entry)) (now (input .exit)) ⌝ }
 {
-    if fields::is_ready(&input[0..held]) {
+    if headers::is_ready(&input[0..held]) {
         return Moved {
             count: held,
             more: true,
@@ -179,65 +99,63 @@ fn read_some(input: &mut [u8], held: usize) -> Moved
     }
 }
 
-// What the service keeps from turn to turn: the sheet apart from its effects, how many bytes of input it holds, and whether it goes on.
+// What the service keeps from turn to turn: the sheet apart from its effects, how many bytes of input it holds, how many bytes of
+// output it handed on last, and whether it goes on.
 pub struct Service {
     pub rest: Rest,
     pub held: usize,
+    pub given: usize,
     pub more: bool,
 }
 
 // One read at most, the answers to the fields that are then at hand, and one write of them.
 fn turn(s: Service, effects: &mut [i16; 1536], input: &mut [u8], output: &mut [u8]) -> Service
     requires { ⌜ InRange (whole (s .rest) (now effects)) × (s .held ≤ length (now input)) × (37 ≤ length (now output)) ⌝ }
+    ensures { λ r. ⌜ Turned (length (now (output .entry))) (whole (s .rest) (now (effects .entry))) (take (s .held) (now (input .entry))) (take (r .given) (now (output .exit))) (whole (r .rest) (now (effects .exit))) (take (r .held) (now (input .exit))) (r .more) ⌝ }
     ensures { λ r. ⌜ InRange (whole (r .rest) (now (effects .exit))) × (r .held ≤ length (now (input .entry))) × (length (now (input .exit)) ≡ length (now (input .entry))) × (length (now (output .exit)) ≡ length (now (output .entry))) ⌝ }
 {
     let rest = s.rest;
     let held = s.held;
     let m = read_some(input, held);
     let end = m.count;
-    let p = answer_all(rest, effects, !m.more, &input[0..end], output);
+    let p = stream::answer_all(rest, effects, !m.more, &input[0..end], output);
     let consumed = p.consumed;
     let written = p.written;
-    let ok = write_all(&output[0..written]);
-    shift(input, consumed, end);
+    let w = write_all(&output[0..written]);
+    stream::shift(input, consumed, end);
     let next = p.rest;
     Service {
         rest: next,
         held: end - consumed,
-        more: m.more & ok & !p.stop,
+        given: w.given,
+        more: m.more & w.all & !p.stop,
     }
 }
 
 // A proved loop ends, and no fact says that the input does: the turns are counted from a number that no run uses up.
-fn serve(input: &mut [u8], output: &mut [u8])
-    requires { ⌜ 37 ≤ length (now output) ⌝ }
+fn serve(effects: &mut [i16; 1536], input: &mut [u8], output: &mut [u8]) -> Service
+    requires { ⌜ (now effects ≡ zeros 1536) × (37 ≤ length (now output)) ⌝ }
+    ensures { λ r. ⌜ Served (length (now (output .entry))) freshSheet (whole (r .rest) (now (effects .exit))) (take (r .held) (now (input .exit))) (r .more) ⌝ }
 {
-    let settings = Settings {
-        method: 1,
-        live: 0,
-        zone: 0,
-    };
-    let rest = Rest {
-        settings,
-        kinds: [0u8; 32],
-        capacities: [0u16; 48],
-    };
-    let mut effects = [0i16; 1536];
+    let rest = Rest::fresh(standard::fresh_settings());
     let mut s = Service {
         rest,
         held: 0,
+        given: 0,
         more: true,
     };
     let mut left = u64::MAX;
     while left > 0 {
-        s = turn(s, &mut effects, input, output);
+        s = turn(s, effects, input, output);
         left = remaining(s.more, left);
     }
+    s
 }
 
 // The input buffer holds the largest field, 60,003 bytes.
 fn main() {
+    let mut effects = [0i16; 1536];
     let mut input = io::large_buffer();
     let mut output = io::large_buffer();
-    serve(&mut input, &mut output);
+    serve(&mut effects, &mut input, &mut output);
 }

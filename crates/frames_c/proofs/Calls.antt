@@ -2,64 +2,32 @@
 -- Assumes nothing.
 use Prim.Native.Nat.{ℕ, _*_, _/_, _≤_}
 use mathlib.Core.Path.{_≡_, refl, sym, _∙_, ap}
-use mathlib.Core.List.{List, [], _∷_}
+use mathlib.Core.List.{List}
 use mathlib.Core.Bool.{Bool, true, false, cond}
 use mathlib.Core.Logic.{⊎-elim}
-use native.Mathlib.Nat.{zero-add, mul-suc}
+use native.Mathlib.Nat.{zero-add}
 use native.Mathlib.Omega.{arith}
 use borrow.Author.Tests.{le-ltb, lt-ltb, ltb-false, ne-eqb}
-use lib.ListN.{length, replicate, length-append}
+use lib.ListN.{length}
 use lib.Dec.{ltb}
 use lib.IntN.{ℤ}
 use Rattle.wire.specs.Bytes.{over}
 use Rattle.wire.proofs.Cases.{lt-or-ge}
 use Rattle.wire.proofs.Stores.{front}
 use Rattle.sheet.specs.declared.Sheet.{Sheet}
-use Rattle.sheet.specs.declared.Rest.{Rest}
-use Rattle.effects.specs.Effects.{zeros}
-use Rattle.sheet.specs.Sheet.{fresh, freshSheet}
-use Rattle.refusals.specs.Refusals.{dueSettings}
+use Rattle.sheet.specs.Sheet.{freshSheet}
 use Rattle.sheet.specs.Range.{InRange}
 use Rattle.sheet.specs.Parts.{whole}
-use Rattle.sheet.proofs.Kept.{fresh-in-range}
-use Rattle.fields.specs.Field.{readField}
-use Rattle.fields.proofs.Kept.{read-kept}
-use Rattle.fields.proofs.Within.{answer-fits}
+use Rattle.sheet.proofs.Kept.{fresh-kept}
 use Rattle.saving.specs.Saved.{savedBytes, savedMost, savedAnswer, savedOver}
 use Rattle.saving.specs.declared.Saved.{Saved}
 use Rattle.saving.proofs.Lengths.{saved-most}
 use Rattle.frames_c.specs.declared.Progress.{Progress}
-use Rattle.frames_c.specs.Lists.{fieldsOf, sheetAfter, answersTo, bytesOf, loaded, dueState, short, dueAnswer, dueRun, answered, AnswerDone, RunDone}
+use Rattle.lists.specs.Lists.{fieldsOf, sheetAfter, answersTo, bytesOf}
+use Rattle.lists.proofs.Joins.{kept-after, answers-long}
+use Rattle.frames_c.specs.Lists.{loaded, dueState, short, dueAnswer, dueRun, AnswerDone, RunDone}
 use Rattle.frames_c.specs.Loop.{State, starting, steppedAll, stateOf, Room, countOf}
 use Rattle.frames_c.proofs.Loop.{sheet-after, refusal-after, written-after, output-after}
-
-pub kept-after : (fs : List (List ℕ)) (s : Sheet) → InRange s → InRange (sheetAfter fs s)
-unfolding sheetAfter
-kept-after [] s h = h
-kept-after (f ∷ fs) s h = kept-after fs (readField f 37 s .sheet) (read-kept f 37 s h)
-
-pub fresh-kept : InRange freshSheet
-unfolding dueSettings
-fresh-kept = fresh-in-range (record { method = 1; live = 0; zone = 0 }) refl
-
--- a fresh sheet apart from its effects
-abbrev pub freshRest : Rest
-freshRest = record { settings = record { method = 1; live = 0; zone = 0 }; kinds = replicate 32 0; capacities = replicate 48 0 }
-
-pub fresh-whole : {effects : List ℤ} → effects ≡ zeros 1536 → whole freshRest effects ≡ freshSheet
-unfolding fresh
-fresh-whole e = rw e
-
--- 37 bytes a field are room for the answers
-answers-long : (fs : List (List ℕ)) (s : Sheet) → length (bytesOf (answersTo fs s)) ≤ 37 * length fs
-unfolding answersTo bytesOf
-answers-long [] s = omega arith
-answers-long (f ∷ fs) s =
-    let a = readField f 37 s .answer in
-    let h = answers-long fs (readField f 37 s .sheet) in
-    let g = answer-fits a in
-    let e = mul-suc 37 (length fs) in
-    rw length-append (omega arith)
 
 -- the end of the loop over a state, and over the fields of a call
 pub load-is : (state : List ℕ) (p : Progress) (effects : List ℤ) (o : List ℕ) {o′ : List ℕ} →

@@ -1,4 +1,4 @@
-pub mod Lists
+pub mod Counts
 pub mod Steps
 pub mod Loop
 pub mod Calls

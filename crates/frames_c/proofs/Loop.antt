@@ -19,9 +19,10 @@ use Rattle.sheet.specs.Parts.{whole}
 use Rattle.fields.specs.Field.{readField, answerBytes}
 use Rattle.fields.proofs.Within.{answer-fits}
 use Rattle.frames_c.specs.declared.Progress.{Progress}
-use Rattle.frames_c.specs.Lists.{fieldsOf, sheetAfter, answersTo, bytesOf, refusalOf, firstRefusal}
+use Rattle.lists.specs.Lists.{fieldsOf, sheetAfter, answersTo, bytesOf}
+use Rattle.lists.proofs.Left.{Left, left-all, left-none, left-next}
+use Rattle.frames_c.specs.Lists.{refusalOf, firstRefusal}
 use Rattle.frames_c.specs.Loop.{State, advanced, stepped, steppedAll, stateOf, Room, Reached, Stepped}
-use Rattle.frames_c.proofs.Lists.{Left, left-all, left-none, left-next}
 
 -- the steps that are left lead where all of them lead
 pub record Going (keep : Bool) (input : List ℕ) (start : State) (p : Progress) (effects : List ℤ) (output : List ℕ) : Type 0 where

@@ -8,15 +8,17 @@ use lib.ListN.{length, drop, length-drop}
 use Rattle.sheet.specs.declared.Sheet.{Sheet}
 use Rattle.sheet.specs.Sheet.{freshSheet}
 use Rattle.sheet.specs.Range.{InRange}
+use Rattle.sheet.proofs.Kept.{fresh-kept}
 use Rattle.fields.specs.Field.{readField}
 use Rattle.fields.specs.Readings.{ReadThrough, end, field}
 use Rattle.fields.proofs.Consumed.{read-consumed}
 use Rattle.headers.proofs.Whole.{consumed-some}
 use Rattle.saving.specs.Saved.{savedBytes}
 use Rattle.saving.proofs.RoundTrip.{round-trip}
-use Rattle.frames_c.specs.Lists.{fieldsFrom, fieldsOf, sheetAfter, answersTo, firstRefusal, loaded, dueState, savedAfter}
-use Rattle.frames_c.proofs.Lists.{no-fields}
-use Rattle.frames_c.proofs.Calls.{kept-after, fresh-kept}
+use Rattle.lists.specs.Lists.{fieldsFrom, fieldsOf, sheetAfter, answersTo}
+use Rattle.lists.proofs.Left.{no-fields}
+use Rattle.lists.proofs.Joins.{kept-after}
+use Rattle.frames_c.specs.Lists.{firstRefusal, loaded, dueState, savedAfter}
 
 -- every field of the list is accepted, and they lead to the sheet
 abbrev Accepted : List (List ℕ) → Sheet → Sheet → Type 0

@@ -1,42 +1,18 @@
 -- Lists of fields on a sheet that is given as its saved bytes: what each exported call answers, writes and saves.
-use Prim.Native.Nat.{ℕ, zero, suc, _*_}
-use mathlib.Core.List.{List, [], _∷_, _++_}
+use Prim.Native.Nat.{ℕ, _*_}
+use mathlib.Core.List.{List, [], _∷_}
 use mathlib.Core.Path.{_≡_}
 use mathlib.Core.Bool.{Bool, cond}
-use lib.ListN.{length, drop}
+use lib.ListN.{length}
 use lib.Dec.{ltb, eqb}
 use Rattle.wire.specs.Bytes.{over}
 use Rattle.sheet.specs.declared.Sheet.{Sheet}
 use Rattle.sheet.specs.declared.Answer.{Answer}
 use Rattle.sheet.specs.declared.Answer.the-variants as answer
 use Rattle.sheet.specs.Sheet.{freshSheet}
-use Rattle.headers.specs.Headers.{consumedBy}
-use Rattle.fields.specs.Field.{readField, answerBytes}
+use Rattle.lists.specs.Lists.{fieldsOf, sheetAfter, answersTo, bytesOf}
 use Rattle.saving.specs.Saved.{savedBytes, savedMost}
 use Rattle.frames_c.specs.declared.Ran.{Ran}
-
--- 01, 'A sheet and its seven fields': the fields of a list, each as the bytes from its tag on; n is at least their number
-unfoldable pub fieldsFrom : ℕ → List ℕ → List (List ℕ)
-fieldsFrom zero input = []
-fieldsFrom (suc n) [] = []
-fieldsFrom (suc n) (b ∷ bs) = (b ∷ bs) ∷ fieldsFrom n (drop (consumedBy (b ∷ bs)) (b ∷ bs))
-
-abbrev pub fieldsOf : List ℕ → List (List ℕ)
-fieldsOf input = fieldsFrom (length input) input
-
--- 01, 'Admissible combinations': each is read on the sheet that the one before returned. The sheet after them, and their answers.
-unfoldable pub sheetAfter : List (List ℕ) → Sheet → Sheet
-sheetAfter [] s = s
-sheetAfter (f ∷ fs) s = sheetAfter fs (readField f 37 s .sheet)
-
-unfoldable pub answersTo : List (List ℕ) → Sheet → List Answer
-answersTo [] s = []
-answersTo (f ∷ fs) s = readField f 37 s .answer ∷ answersTo fs (readField f 37 s .sheet)
-
--- the answer fields, one after the other
-unfoldable pub bytesOf : List Answer → List ℕ
-bytesOf [] = []
-bytesOf (a ∷ rest) = answerBytes a ++ bytesOf rest
 
 -- 01, 'Saving': a saved sheet has fields that are accepted, and tags 06 and 07 are none of its tags
 abbrev pub refusalOf : Answer → ℕ

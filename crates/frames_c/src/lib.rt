@@ -2,16 +2,15 @@
 use saving::Saved;
 use sheet::Answer;
 use sheet::Rest;
-use sheet::Sheet;
-use standard::Settings;
 ghost use mathlib.Core.Path.{_≡_};
 ghost use mathlib.Core.Bool.{true, false};
-ghost use Prim.Native.Nat.{_+_, _*_, _≤_, _<_};
-ghost use lib.ListN.{length, drop};
+ghost use Prim.Native.Nat.{_+_, _<_};
+ghost use lib.ListN.{length};
 ghost use Rattle.effects.specs.Effects.{zeros};
 ghost use Rattle.sheet.specs.Parts.{whole};
 ghost use Rattle.sheet.specs.Range.{InRange};
-ghost use Rattle.frames_c.specs.Lists.{fieldsOf, refusalOf, loaded, dueState, short, AnswerDone, RunDone};
+ghost use Rattle.lists.specs.Lists.{fieldsOf};
+ghost use Rattle.frames_c.specs.Lists.{refusalOf, loaded, dueState, short, AnswerDone, RunDone};
 ghost use Rattle.frames_c.specs.Loop.{starting, advanced, steppedAll, stateOf, Room, Reached, Stepped, countOf};
 
 // The refusal's number, or 0, and how many bytes were written and saved.
@@ -57,7 +56,7 @@ pub extern "C" fn frames_count(input: &[u8]) -> usize
     let mut n: usize = 0;
     let mut at: usize = 0;
     while at < input.len() {
-        at = at + fields::consumed_by(&input[at..]);
+        at = at + headers::consumed_by(&input[at..]);
         n += 1;
     }
     n
@@ -82,7 +81,7 @@ fn step(
     let a = r.answer;
     Progress {
         rest: next,
-        refusal: sheet::first(p.refusal == 0, refusal_of(a), p.refusal),
+        refusal: refusals::first(p.refusal == 0, refusal_of(a), p.refusal),
         consumed: at + r.consumed,
         written: advanced(keep, to, r.written),
     }
@@ -118,16 +117,7 @@ fn load(effects: &mut [i16; 1536], state: &[u8]) -> Progress
     ensures { λ r. ⌜ (whole (r .rest) (now (effects .exit)) ≡ loaded (now (state .entry))) × (r .refusal ≡ dueState (now (state .entry))) × InRange (whole (r .rest) (now (effects .exit))) ⌝ }
 {
     let mut answer = [0u8; 37];
-    let settings = Settings {
-        method: 1,
-        live: 0,
-        zone: 0,
-    };
-    let rest = Rest {
-        settings,
-        kinds: [0u8; 32],
-        capacities: [0u16; 48],
-    };
+    let rest = Rest::fresh(standard::fresh_settings());
     read_all(rest, false, effects, state, &mut answer)
 }
 
@@ -156,7 +146,7 @@ pub extern "C" fn frames_answer(state: &[u8], input: &[u8], output: &mut [u8]) -
     let mut effects = [0i16; 1536];
     let p = load(&mut effects, state);
     let short = is_short(input, output.len());
-    let due = sheet::first(short, 14, p.refusal);
+    let due = refusals::first(short, 14, p.refusal);
     if due == 0 {
         let rest = p.rest;
         let q = read_all(rest, true, &mut effects, input, output);
@@ -181,8 +171,8 @@ pub extern "C" fn frames_run(state: &[u8], input: &[u8], output: &mut [u8], save
     let mut effects = [0i16; 1536];
     let p = load(&mut effects, state);
     let short = is_short(input, output.len());
-    let due = sheet::first(short, 14, p.refusal);
-    let due = sheet::first(saved.len() < saving::SAVED_MOST, 14, due);
+    let due = refusals::first(short, 14, p.refusal);
+    let due = refusals::first(saved.len() < saving::SAVED_MOST, 14, due);
     if due == 0 {
         let rest = p.rest;
         let q = read_all(rest, true, &mut effects, input, output);

@@ -3,7 +3,6 @@
 use recheck::Model;
 use sheet::Answer;
 use sheet::Sheet;
-use standard::Settings;
 use std::num::wrapping_add_u64;
 ghost use mathlib.Core.Path.{_≡_};
 ghost use Prim.Native.Nat.{_≤_, _<_};
@@ -37,11 +36,7 @@ pub struct Run {
 fn fresh_sheet() -> Sheet
     ensures { λ r. ⌜ InRange r ⌝ }
 {
-    Sheet::fresh(Settings {
-        method: 1,
-        live: 0,
-        zone: 0,
-    })
+    Sheet::fresh(standard::fresh_settings())
 }
 
 // The bytes that a reading of this input must consume, by the header alone: all of them where the field is cut short.

@@ -1,7 +1,7 @@
 -- A fresh sheet is in range, and each field keeps a sheet so.
 -- Assumes nothing.
 use Prim.Native.Nat.{ℕ, zero, suc, _≤_, _<_, zero-le}
-use mathlib.Core.Path.{_≡_, sym, _∙_}
+use mathlib.Core.Path.{_≡_, refl, sym, _∙_}
 use mathlib.Core.List.{List, [], _∷_}
 use mathlib.Core.Bool.{true, false}
 use mathlib.Core.Logic.{⊎-elim, inl, inr}
@@ -11,6 +11,7 @@ use lib.ListN.{getD}
 use lib.IntN.{ℤ, pos, natAbs}
 use borrow.Author.Tests.{eqb-true}
 use Rattle.standard.specs.declared.Settings.{Settings}
+use Rattle.standard.specs.Rows.{freshSettings}
 use Rattle.standard.specs.Kinds.{kindCount}
 use Rattle.standard.specs.Combination.{caseCount}
 use Rattle.envelope.specs.Range.{effectLimit, stationCount}
@@ -18,7 +19,7 @@ use Rattle.wire.specs.Bytes.{signed16}
 use Rattle.wire.proofs.Cases.{either, eq-or-ne}
 use Rattle.wire.proofs.Stores.{set-keep, sets-keep, replicate-all}
 use Rattle.sheet.specs.declared.Sheet.{Sheet}
-use Rattle.sheet.specs.Sheet.{kindAt, effectAt, capacityAt, fresh, withKind, withEffects, withCapacities}
+use Rattle.sheet.specs.Sheet.{kindAt, effectAt, capacityAt, fresh, freshSheet, withKind, withEffects, withCapacities}
 use Rattle.effects.specs.Effects.{place, cleared}
 use Rattle.refusals.specs.Refusals.{dueSettings, dueCapacities}
 use Rattle.sheet.specs.Edits.{dueFill, dueEffects, dueEmpty, tried}
@@ -43,6 +44,10 @@ fresh-in-range settings e =
       empty-zero = λ k t j _ _ _ _. fresh-effect settings k t j;
       capacities-whole = λ t _. inl (fresh-capacity settings t 0, fresh-capacity settings t 1, fresh-capacity settings t 2);
     }
+
+pub fresh-kept : InRange freshSheet
+unfolding dueSettings
+fresh-kept = fresh-in-range freshSettings refl
 
 -- a place that is filled or emptied
 cleared-within : (l : List ℤ) (k n i : ℕ) → Within (getD l i (pos 0)) → Within (getD (cleared l k n) i (pos 0))

@@ -1,13 +1,23 @@
--- Fields on a sheet apart from its effects: the edit where no refusal is due, else all as it was.
+-- A sheet apart from its effects: a fresh one; fields on it, the edit where no refusal is due, else all as it was.
 -- Assumes nothing.
 use Prim.Native.Nat.{ℕ}
+use mathlib.Core.List.{List}
 use mathlib.Core.Path.{_≡_, refl, _∙_, ap}
+use lib.IntN.{ℤ}
+use Rattle.standard.specs.declared.Settings.{Settings}
+use Rattle.effects.specs.Effects.{effectCount, zeros}
 use Rattle.sheet.specs.declared.Sheet.{Sheet}
 use Rattle.sheet.specs.declared.Answered.{Answered}
 use Rattle.sheet.specs.declared.Answer.the-variants as answer
+use Rattle.sheet.specs.Sheet.{fresh}
+use Rattle.sheet.specs.Parts.{restOf, whole}
 use Rattle.sheet.specs.Edits.{tried}
 use Rattle.sheet.specs.Looks.{edited}
 use Rattle.sheet.proofs.Refusals.{tried-none, tried-due, answered-due}
+
+pub fresh-whole : (settings : Settings) {effects : List ℤ} → effects ≡ zeros effectCount → whole (restOf (fresh settings)) effects ≡ fresh settings
+unfolding fresh
+fresh-whole settings e = rw e
 
 pub part-none : (d : ℕ) (s s′ : Sheet) {x : Sheet} → d ≡ 0 → x ≡ s′ → _≡_ {A = Answered} (record { answer = answer.Accepted; sheet = x }) (edited (tried d s s′))
 part-none d s s′ e f = ap edited (tried-none d s s′ e f)

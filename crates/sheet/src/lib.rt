@@ -10,7 +10,6 @@ ghost use Rattle.standard.specs.Combination.{caseCount};
 ghost use Rattle.standard.specs.Rows.{settingsOf};
 ghost use Rattle.envelope.specs.Range.{stationCount, componentCount};
 ghost use Rattle.refusals.specs.Refusals.{dueSettings, dueCapacities, dueExtremes};
-ghost use Rattle.effects.specs.Effects.{effectCount, zeros};
 ghost use Rattle.sheet.specs.Sheet.{fresh, withKind, withEffects, withCapacities};
 ghost use Rattle.sheet.specs.Range.{InRange};
 ghost use Rattle.sheet.specs.Looks.{extremesAt, utilisationAt, unlessDue, edited, dueUtilisation, lookedExtremes, lookedUtilisation};
@@ -196,7 +195,7 @@ impl AnsweredRest {
 impl Rest {
     // A fresh sheet apart from its effects.
     pub fn fresh(settings: Settings) -> Rest
-        ensures { λ r. ⌜ whole r (zeros effectCount) ≡ fresh settings ⌝ }
+        ensures { λ r. ⌜ r ≡ restOf (fresh settings) ⌝ }
     {
         Rest {
             settings,

@@ -27,13 +27,13 @@ impl Settings {
     {
         Settings { method, live, zone }
     }
+}
 
-    // Those of a fresh sheet.
-    pub fn fresh() -> Settings
-        ensures { λ r. ⌜ r ≡ freshSettings ⌝ }
-    {
-        Settings::of(1, 0, 0)
-    }
+// Those of a fresh sheet.
+pub fn fresh_settings() -> Settings
+    ensures { λ r. ⌜ r ≡ freshSettings ⌝ }
+{
+    Settings::of(1, 0, 0)
 }
 
 // How the cases of a kind may act: all of them, any subset, at most one of a group of kinds.

@@ -1,27 +1,39 @@
--- The service goes on from a fresh sheet, which is in range, and each turn keeps it so.
+-- `frames::serve` meets its contract: it goes on turn by turn from a fresh sheet, which each turn keeps in range.
 -- Assumes nothing.
 use Prim.Native.Nat.{_≤_}
 use mathlib.Core.Path.{_≡_, refl}
-use lib.ListN.{length}
-use Rattle.refusals.specs.Refusals.{dueSettings}
-use Rattle.effects.specs.Effects.{zeros}
-use Rattle.sheet.specs.Sheet.{fresh}
+use lib.ListN.{length, take}
+use Rattle.standard.specs.Rows.{freshSettings}
+use Rattle.sheet.specs.Sheet.{freshSheet}
 use Rattle.sheet.specs.Parts.{whole}
 use Rattle.sheet.specs.Range.{InRange}
-use Rattle.sheet.proofs.Kept.{fresh-in-range}
+use Rattle.sheet.proofs.Kept.{fresh-kept}
+use Rattle.sheet.proofs.Parts.{fresh-whole}
+use Rattle.frames.proofs.Serving.{Serving, serving-start, serving-next, served}
 use borrow.Author.Needs.{needs}
 use Rattle.frames.proofs.serve.Statement.{statement}
 use Rattle.frames.proofs.serve.Tie as tie
 
 abbrev Inv-loop : tie.InvT-loop
-Inv-loop input₀ output₀ effects₀ s₀ left₀ input output effects s left = InRange (whole (s .rest) effects) × (s .held ≤ length input) × (37 ≤ length output) × (length input ≡ length input₀) × (length output ≡ length output₀)
+Inv-loop effects₀ input₀ output₀ s₀ left₀ effects input output s left =
+    Serving (length output₀) freshSheet (whole (s .rest) effects) (take (s .held) input) (s .more) left
+    × InRange (whole (s .rest) effects) × (s .held ≤ length input) × (37 ≤ length output) × (length input ≡ length input₀) × (length output ≡ length output₀)
 
 abbrev μ-loop : tie.MeasureT-loop
-μ-loop input₀ output₀ effects₀ s₀ left₀ input output effects s left = left
+μ-loop effects₀ input₀ output₀ s₀ left₀ effects input output s left = left
+
+fresh-settings-requires : tie.Need-fresh-settings-requires Inv-loop μ-loop
+fresh-settings-requires c κs = search needs
+
+fresh-requires : tie.Need-fresh-requires Inv-loop μ-loop
+fresh-requires c κs = search needs
 
 loop-holds : tie.Need-loop-holds Inv-loop μ-loop
-unfolding dueSettings fresh zeros
-loop-holds c = (fresh-in-range (record { method = 1; live = 0; zone = 0 }) refl, search needs, search needs, search needs, search needs)
+loop-holds c =
+    let a = c .before .before .before .before in
+    let e : whole (c .fresh .result) (a .args .effects .now) ≡ freshSheet =
+    rw (c .fresh .ensures, c .before .fresh-settings .ensures) (fresh-whole freshSettings (a .pre .0)) in
+    (serving-start (length (a .args .output .now)) e, rw e fresh-kept, search needs, search needs, search needs, search needs)
 
 turn-requires : tie.Need-turn-requires Inv-loop μ-loop
 turn-requires c κs = search needs
@@ -33,7 +45,10 @@ loop-less : tie.Need-loop-less Inv-loop μ-loop
 loop-less c = search needs
 
 loop-again : tie.Need-loop-again Inv-loop μ-loop
-loop-again c = search needs
+loop-again c =
+    let t = c .before .before .before .before .before in
+    let i = t .before .before .before .before .before .loop .inv in
+    (serving-next (i .0) (t .before .before .before .before .loop-test .taken) (rw (i .5) at (t .turn .ensures .0)) (c .remaining .ensures .1), search needs, search needs, search needs, search needs, search needs)
 
 same-length : tie.Need-same-length Inv-loop μ-loop
 same-length c = search needs
@@ -42,7 +57,7 @@ same-length-2 : tie.Need-same-length-2 Inv-loop μ-loop
 same-length-2 c = search needs
 
 returns : tie.Need-returns Inv-loop μ-loop
-returns c = search needs
+returns c = served (c .before .loop .inv .0) (c .loop-test .left)
 
 pub serve-spec : {M : Type 1} → statement M
 serve-spec =
@@ -50,6 +65,8 @@ serve-spec =
     (tie.spec
     Inv-loop
     μ-loop
+    fresh-settings-requires
+    fresh-requires
     loop-holds
     turn-requires
     remaining-requires

@@ -1,6 +1,7 @@
--- A turn keeps the sheet in range, the bytes held within the input, and both buffers as long as they were.
+-- `frames::turn` meets its contract, and keeps the sheet in range, the bytes held within the input, and both buffers as long as they were.
 -- Assumes nothing.
 use native.Mathlib.Omega.{arith}
+use Rattle.frames.proofs.Turns.{turned}
 use borrow.Author.Needs.{needs}
 use Rattle.frames.proofs.turn.Statement.{statement}
 use Rattle.frames.proofs.turn.Tie as tie
@@ -46,8 +47,14 @@ same-length-2 c = search needs
 
 returns : tie.Need-returns
 returns c =
-    let a = c .before .before .before .before .before .before .before .before .before .before .before .before .answer-all .ensures in
-    (a .in-range, omega (arith, c .before .before .before .before .before .before .before .before .before .before .before .before .before .before .before .before .before .before .before .before .read-some .ensures .0), search needs, search needs)
+    let w = c .before .before .before .before .before .before .before .before in
+    let a = w .before .before .before .before .before in
+    let q = a .before .before .before .before .before .before .before .before in
+    let s = q .before .before .before .before .before in (
+      turned (s .args .s) (s .args .effects .now) (s .args .input .now) (s .args .output .now) (q .read-some .result .more) (s .pre .2) (q .read-some .ensures)
+          (a .answer-all .ensures .0) (a .answer-all .ensures .1 .written) (w .write-all .ensures) (c .before .before .before .before .before .before .shift .ensures),
+      (a .answer-all .ensures .1 .in-range, omega (arith, q .read-some .ensures .most), same-length c, search needs),
+    )
 
 pub turn-spec : {M : Type 1} → statement M
 turn-spec =

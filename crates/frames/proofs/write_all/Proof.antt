@@ -1,19 +1,20 @@
--- The count of bytes written stays within the bytes.
+-- `frames::write_all` meets its contract, and the count of bytes written stays within the bytes.
 -- Assumes nothing.
 use Prim.Native.Nat.{_≤_}
+use mathlib.Core.Path.{refl}
 use lib.ListN.{length}
 use borrow.Author.Needs.{needs}
 use Rattle.frames.proofs.write_all.Statement.{statement}
 use Rattle.frames.proofs.write_all.Tie as tie
 
 abbrev Inv-loop : tie.InvT-loop
-Inv-loop bytes m₀ left₀ m left = m .count ≤ length bytes
+Inv-loop bytes given m₀ left₀ m left = m .count ≤ length bytes
 
 abbrev μ-loop : tie.MeasureT-loop
-μ-loop bytes m₀ left₀ m left = left
+μ-loop bytes given m₀ left₀ m left = left
 
 returns : tie.Need-returns Inv-loop μ-loop
-returns c = search needs
+returns c = (refl, λ _. refl)
 
 loop-holds : tie.Need-loop-holds Inv-loop μ-loop
 loop-holds c = search needs
@@ -31,7 +32,7 @@ loop-again : tie.Need-loop-again Inv-loop μ-loop
 loop-again c = search needs
 
 returns-2 : tie.Need-returns-2 Inv-loop μ-loop
-returns-2 c = search needs
+returns-2 c = (refl, λ e. absurd (c .before .before .before .if1 .left e))
 
 pub write-all-spec : {M : Type 1} → statement M
 write-all-spec =

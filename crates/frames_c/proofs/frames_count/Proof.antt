@@ -7,7 +7,9 @@ use native.Mathlib.Omega.{arith}
 use borrow.Author.Needs.{needs}
 use lib.ListN.{length, take, drop}
 use Rattle.headers.specs.Headers.{consumedBy}
-use Rattle.frames_c.proofs.Lists.{Counted, part-from, left-next, counted-start, counted-next, counted-end}
+use Rattle.lists.proofs.Left.{left-next}
+use Rattle.lists.proofs.Placed.{part-from}
+use Rattle.frames_c.proofs.Counts.{Counted, counted-start, counted-next, counted-end}
 use Rattle.frames_c.proofs.frames_count.Statement.{statement}
 use Rattle.frames_c.proofs.frames_count.Tie as tie
 

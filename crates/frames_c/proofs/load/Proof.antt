@@ -1,11 +1,17 @@
 -- `frames_c::load` meets its contract: a fresh sheet is in range, and one answer has room.
 -- Assumes nothing.
 use Prim.Native.Nat.{ℕ}
+use mathlib.Core.Path.{_≡_}
 use mathlib.Core.Bool.{false}
 use native.Mathlib.Omega.{arith}
 use lib.ListN.{replicate}
+use Rattle.standard.specs.Rows.{freshSettings}
+use Rattle.sheet.specs.Sheet.{freshSheet}
+use Rattle.sheet.specs.Parts.{whole}
+use Rattle.sheet.proofs.Kept.{fresh-kept}
+use Rattle.sheet.proofs.Parts.{fresh-whole}
 use Rattle.frames_c.specs.Loop.{Room}
-use Rattle.frames_c.proofs.Calls.{fresh-whole, fresh-kept, load-is}
+use Rattle.frames_c.proofs.Calls.{load-is}
 use borrow.Author.Needs.{needs}
 use Rattle.frames_c.proofs.load.Statement.{statement}
 use Rattle.frames_c.proofs.load.Tie as tie
@@ -14,16 +20,31 @@ small : (n : ℕ) → Room false 0 n 37
 unfolding Room
 small n = omega arith
 
+fresh-settings-requires : tie.Need-fresh-settings-requires
+fresh-settings-requires c κs = search needs
+
+fresh-requires : tie.Need-fresh-requires
+fresh-requires c κs = search needs
+
 slice-aggregate-read-all : tie.Need-slice-aggregate-read-all
 slice-aggregate-read-all c = search needs
 
 read-all-requires : tie.Need-read-all-requires
-read-all-requires c κs = (rw (fresh-whole (c .before .before .before .pre)) fresh-kept, small _)
+read-all-requires c κs =
+    let f = c .before .before in
+    let a = f .before .before .before in
+    let e : whole (f .fresh .result) (a .args .effects .now) ≡ freshSheet =
+    rw (f .fresh .ensures, f .before .fresh-settings .ensures) (fresh-whole freshSettings (a .pre)) in
+    (rw e fresh-kept, small _)
 
 returns : tie.Need-returns
 returns c =
-    let a = c .before .before .before .before .before in
-    load-is (a .args .state .now) (c .before .read-all .result) _ (replicate 37 0) (rw (fresh-whole (a .pre)) at (c .before .read-all .ensures))
+    let r = c .before in
+    let f = r .before .before .before in
+    let a = f .before .before .before in
+    let e : whole (f .fresh .result) (a .args .effects .now) ≡ freshSheet =
+    rw (f .fresh .ensures, f .before .fresh-settings .ensures) (fresh-whole freshSettings (a .pre)) in
+    load-is (a .args .state .now) (r .read-all .result) _ (replicate 37 0) (rw e at (r .read-all .ensures))
 
 pub load-spec : {M : Type 1} → statement M
-load-spec = tie.close (tie.spec slice-aggregate-read-all read-all-requires returns)
+load-spec = tie.close (tie.spec fresh-settings-requires fresh-requires slice-aggregate-read-all read-all-requires returns)

@@ -3,7 +3,8 @@
 use Prim.Native.Nat.{_≤_}
 use lib.ListN.{length}
 use native.Mathlib.Omega.{arith}
-use Rattle.frames_c.proofs.Steps.{part-long, step-is}
+use Rattle.lists.proofs.Placed.{part-long}
+use Rattle.frames_c.proofs.Steps.{step-is}
 use borrow.Author.Needs.{needs}
 use Rattle.frames_c.proofs.step.Statement.{statement}
 use Rattle.frames_c.proofs.step.Tie as tie

@@ -1,18 +1,18 @@
 -- A fresh sheet is in range.
 -- Assumes nothing.
-use mathlib.Core.Path.{refl}
 use borrow.Author.Needs.{needs}
-use Rattle.refusals.specs.Refusals.{dueSettings}
-use Rattle.sheet.proofs.Kept.{fresh-in-range}
+use Rattle.sheet.proofs.Kept.{fresh-kept}
 use Rattle.recheck_run.proofs.fresh_sheet.Statement.{statement}
 use Rattle.recheck_run.proofs.fresh_sheet.Tie as tie
+
+fresh-settings-requires : tie.Need-fresh-settings-requires
+fresh-settings-requires c κs = search needs
 
 fresh-requires : tie.Need-fresh-requires
 fresh-requires c κs = search needs
 
 returns : tie.Need-returns
-unfolding dueSettings
-returns c = rw (c .fresh .ensures) (fresh-in-range (record { method = 1; live = 0; zone = 0 }) refl)
+returns c = rw (c .fresh .ensures, c .before .fresh-settings .ensures) fresh-kept
 
 pub fresh-sheet-spec : {M : Type 1} → statement M
-fresh-sheet-spec = tie.close (tie.spec fresh-requires returns)
+fresh-sheet-spec = tie.close (tie.spec fresh-settings-requires fresh-requires returns)

@@ -1,4 +1,4 @@
--- The rest of a fresh sheet, with effects of 0, is the sheet.
+-- The contract is what it writes.
 -- Assumes nothing.
 use mathlib.Core.Path.{refl}
 use Rattle.sheet.specs.Sheet.{fresh}

@@ -1,11 +1,12 @@
--- One answer leaves the sheet in range, its places within the buffers, and the output as long as it was.
+-- `stream::answer` meets its contract: it answers the field at its place, after the answers that wait.
 -- Assumes nothing.
 use Prim.Native.Nat.{_-_}
 use native.Mathlib.Omega.{arith}
 use lib.ListN.{length, drop, length-take, length-drop}
+use Rattle.stream.proofs.Fields.{progressed-one}
 use borrow.Author.Needs.{needs}
-use Rattle.frames.proofs.answer.Statement.{statement}
-use Rattle.frames.proofs.answer.Tie as tie
+use Rattle.stream.proofs.answer.Statement.{statement}
+use Rattle.stream.proofs.answer.Tie as tie
 
 sub-read-in : tie.Need-sub-read-in
 sub-read-in c = search needs
@@ -38,21 +39,16 @@ add-t18 : tie.Need-add-t18
 add-t18 c =
     let f = c .before .before .before .before .before .before in
     let a = f .before .before .before .before .before .before .before in
-    omega (arith, f .read-in .ensures .1 .written, length-take (length (a .args .output .now) - a .args .p .written) (drop (a .args .p .written) (a .args .output .now)), length-drop (a .args .p .written) (a .args .output .now), a .pre .written)
+    omega (arith, f .read-in .ensures .1 .written, length-take (length (a .args .output .now) - a .args .p .written) (drop (a .args .p .written) (a .args .output .now)), length-drop (a .args .p .written) (a .args .output .now), a .pre .0 .written)
 
 same-length : tie.Need-same-length
 same-length c = search needs
 
 returns : tie.Need-returns
 returns c =
-    let r = c .before .before .before .before .before .before .read-in .ensures .1 in
-    record {
-      in-range = r .in-range;
-      consumed = search needs;
-      written = search needs;
-      room = search needs;
-      same = search needs;
-    }
+    let f = c .before .before .before .before .before .before .before in
+    let a = f .before .before .before .before .before .before .before in
+    progressed-one (a .args .p) (a .args .effects .now) (a .args .input .now) (a .args .output .now) (a .pre .1) (f .read-in .ensures .0) (c .before .before .before .is-last .ensures)
 
 pub answer-spec : {M : Type 1} → statement M
 answer-spec =

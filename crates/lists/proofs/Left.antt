@@ -1,14 +1,14 @@
 -- A list of fields is read from field to field: the fields that are left at a place, the next one, and the end.
 -- Assumes nothing.
 use Prim.Native.Nat.{ℕ, zero, suc, _+_, _-_, _≤_, _<_}
-use mathlib.Core.Path.{_≡_, refl, _∙_, ap}
+use mathlib.Core.Path.{_≡_, refl, sym, _∙_, ap}
 use mathlib.Core.List.{List, [], _∷_}
 use native.Mathlib.Omega.{arith}
-use lib.ListN.{length, take, drop, length-drop, drop-of-length-le}
-use lib.Seq.{take-all, drop-drop}
+use lib.ListN.{length, drop, length-drop, drop-of-length-le}
+use lib.Seq.{drop-drop, drop-length}
 use Rattle.headers.specs.Headers.{consumedBy}
 use Rattle.headers.proofs.Whole.{consumed-within, consumed-some}
-use Rattle.frames_c.specs.Lists.{fieldsFrom, fieldsOf}
+use Rattle.lists.specs.Lists.{fieldsFrom, fieldsOf}
 
 -- fs are the fields of the input from place i on
 pub record Left (input : List ℕ) (i : ℕ) (fs : List (List ℕ)) : Type 0 where
@@ -19,10 +19,6 @@ pub record Left (input : List ℕ) (i : ℕ) (fs : List (List ℕ)) : Type 0 whe
 
 pub left-all : (input : List ℕ) → Left input 0 (fieldsOf input)
 left-all input = record { n = length input; within = omega arith; enough = omega arith; fields = refl }
-
--- a part of a slice that goes to its end
-pub part-from : (w : List ℕ) (i : ℕ) → take (length w - i) (drop i w) ≡ drop i w
-part-from w i = take-all (length w - i) (drop i w) (rw length-drop (omega arith))
 
 -- the bytes from place i on, taken apart
 from-place : (input : List ℕ) (i : ℕ) → i < length input → (b : ℕ) × ((bs : List ℕ) × (drop i input ≡ b ∷ bs))
@@ -72,28 +68,33 @@ next input i (suc n) g e f =
 pub left-next : {input : List ℕ} {i : ℕ} {fs : List (List ℕ)} → Left input i fs → i < length input → Next input i fs
 left-next {input} {i} h g = next input i (h .n) g (h .enough) (h .fields)
 
--- a field counted, and those that are left
-pub record Counted (input : List ℕ) (i n : ℕ) : Type 0 where
-  pub fields : List (List ℕ)
-  pub left : Left input i fields
-  pub count : n + length fields ≡ length (fieldsOf input)
-  -- each field has a byte
-  pub most : n ≤ i
+-- as a number of fields at most, any that is at least that of the bytes will do
+same-fields : (n m : ℕ) (w : List ℕ) → length w ≤ n → length w ≤ m → fieldsFrom n w ≡ fieldsFrom m w
+unfolding fieldsFrom
+same-fields zero m [] h g = sym (no-fields m)
+same-fields zero m (b ∷ bs) h g = absurd (omega arith)
+same-fields (suc n) m [] h g = sym (no-fields m)
+same-fields (suc n) zero (b ∷ bs) h g = absurd (omega arith)
+same-fields (suc n) (suc m) (b ∷ bs) h g =
+    let w : List ℕ = b ∷ bs in
+    let c = consumed-some w (omega arith) in
+    let l : length (drop (consumedBy w) w) ≡ length w - consumedBy w = length-drop (consumedBy w) w in
+    ap (λ (fs : List (List ℕ)). w ∷ fs) (same-fields n m (drop (consumedBy w) w) (omega arith) (omega arith))
 
-pub counted-start : (input : List ℕ) → Counted input 0 0
-counted-start input = record { fields = fieldsOf input; left = left-all input; count = omega arith; most = omega arith }
+-- the fields of bytes are the first, and those of the bytes after it
+pub first-field : (w : List ℕ) → 0 < length w → fieldsOf w ≡ w ∷ fieldsOf (drop (consumedBy w) w)
+unfolding fieldsFrom
+first-field [] g = absurd (omega arith)
+first-field (b ∷ bs) g =
+    let w : List ℕ = b ∷ bs in
+    let c = consumed-some w g in
+    let l : length (drop (consumedBy w) w) ≡ length w - consumedBy w = length-drop (consumedBy w) w in
+    ap (λ (fs : List (List ℕ)). w ∷ fs)
+    (same-fields (length bs) (length (drop (consumedBy w) w)) (drop (consumedBy w) w) (omega arith) (omega arith))
 
-pub counted-next : {input : List ℕ} {i n : ℕ} → Counted input i n → i < length input → Counted input (i + consumedBy (drop i input)) (n + 1)
-counted-next {input} {i} h g =
-    let x = left-next (h .left) g in
-    let e : length (h .fields) ≡ suc (length (x .rest)) = ap length (x .split) in
-    let f = x .further in
-    let c = h .count in
-    let m = h .most in
-    record { fields = x .rest; left = x .later; count = omega arith; most = omega arith }
-
-pub counted-end : {input : List ℕ} {i n : ℕ} → Counted input i n → length input ≤ i → n ≡ length (fieldsOf input)
-counted-end h g =
-    let e : length (h .fields) ≡ 0 = ap length (left-none (h .left) g) in
-    let c = h .count in
-    omega arith
+-- one that takes all the bytes is the only one
+pub only-field : (w : List ℕ) → 0 < length w → consumedBy w ≡ length w → fieldsOf w ≡ w ∷ []
+unfolding fieldsFrom
+only-field w g e =
+    let d : drop (consumedBy w) w ≡ [] = ap (λ (n : ℕ). drop n w) e ∙ drop-length w in
+    first-field w g ∙ ap (λ (v : List ℕ). w ∷ fieldsOf v) d

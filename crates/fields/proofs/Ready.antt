@@ -1,0 +1,93 @@
+-- A field that can be read now is read the same whatever bytes follow it, and only a 3 consumes them too. One that cannot takes all
+-- the bytes.
+-- Assumes nothing.
+use Prim.Native.Nat.{ℕ, _+_, _-_, _≤_}
+use mathlib.Core.Path.{_≡_, refl, sym, _∙_, ap}
+use mathlib.Core.List.{List, _++_}
+use mathlib.Core.Bool.{Bool, true, false, cond}
+use mathlib.Core.Logic.{⊎-elim, _⊎_, inl, inr}
+use native.Mathlib.Omega.{arith}
+use borrow.Author.Tests.{ltb-false, le-ltb}
+use lib.ListN.{length, take, drop, length-append, length-drop, List·getD-append}
+use lib.Seq.{take-append-le, drop-append-le}
+use lib.Dec.{ltb}
+use Rattle.wire.specs.Bytes.{byteAt, wordAt}
+use Rattle.sheet.specs.declared.Sheet.{Sheet}
+use Rattle.headers.specs.declared.Header.{Header}
+use Rattle.headers.specs.declared.Header.the-variants.{Field, Short}
+use Rattle.fields.specs.declared.Reading.{Reading}
+use Rattle.headers.specs.Headers.{headerOf, consumedOf, consumedBy, readyOf}
+use Rattle.fields.specs.Field.{lastOf, readHeader, readField}
+use Rattle.headers.proofs.Whole.{header-fits}
+
+-- the second reading has the first one's answer and sheet, and consumes as much unless it is a 3
+pub record SameReading (r r′ : Reading) : Type 0 where
+  pub answer : r′ .answer ≡ r .answer
+  pub sheet : r′ .sheet ≡ r .sheet
+  pub consumed : lastOf (r .answer) ≡ false → r′ .consumed ≡ r .consumed
+
+ready-tests : (a b c : Bool) → cond a false (cond b true (cond c false true)) ≡ true → (a ≡ false) × ((b ≡ true) ⊎ ((b ≡ false) × (c ≡ false)))
+ready-tests true b c e = absurd (let z : _≡_ {A = ℕ} 0 1 = cc in omega arith)
+ready-tests false true c e = (refl, inl refl)
+ready-tests false false true e = absurd (let z : _≡_ {A = ℕ} 0 1 = cc in omega arith)
+ready-tests false false false e = (refl, inr (refl, refl))
+
+later-tests : (b c c′ : Bool) (h : Header) → (b ≡ true) ⊎ (c ≡ c′) → cond b Short (cond c Short h) ≡ cond b Short (cond c′ Short h)
+later-tests b c c′ h = ⊎-elim (λ e. rw e) (λ e. rw e)
+
+by-room : (full : Bool) (a r r′ : Reading) → SameReading r r′ → SameReading (cond full a r) (cond full a r′)
+by-room true a r r′ h = record { answer = refl; sheet = refl; consumed = λ _. refl }
+by-room false a r r′ h = h
+
+module _ (s t : List ℕ) where
+  byte-same : (n : ℕ) → n + 1 ≤ length s → byteAt (s ++ t) n ≡ byteAt s n
+  byte-same n h = List·getD-append s t 0 n (omega arith)
+
+  word-same : 3 ≤ length s → wordAt (s ++ t) 1 ≡ wordAt s 1
+  word-same h = rw (byte-same 1 (omega arith), byte-same 2 (omega arith))
+
+  pub header-same : readyOf s ≡ true → headerOf (s ++ t) ≡ headerOf s
+  unfolding headerOf readyOf
+  header-same e =
+      let x = ready-tests (ltb (length s) 3) (ltb 60000 (wordAt s 1)) (ltb (length s - 3) (wordAt s 1)) e in
+      let a : 3 ≤ length s = ltb-false (length s) 3 (x .0) in
+      let l = length-append s t in
+      let a′ : 3 ≤ length (s ++ t) = omega arith in
+      let c : (ltb 60000 (wordAt s 1) ≡ true) ⊎ (ltb (length (s ++ t) - 3) (wordAt s 1) ≡ ltb (length s - 3) (wordAt s 1)) =
+      ⊎-elim inl
+      (λ b.
+      let k : wordAt s 1 ≤ length s - 3 = ltb-false (length s - 3) (wordAt s 1) (b .1) in
+      let k′ : wordAt s 1 ≤ length (s ++ t) - 3 = omega arith in
+      inr (le-ltb (length (s ++ t) - 3) (wordAt s 1) k′ ∙ sym (b .1)))
+      (x .1) in
+      rw (le-ltb (length (s ++ t)) 3 a′, x .0, word-same a, byte-same 0 (omega arith))
+      (later-tests (ltb 60000 (wordAt s 1)) (ltb (length (s ++ t) - 3) (wordAt s 1)) (ltb (length s - 3) (wordAt s 1)) (Field (byteAt s 0) (wordAt s 1)) c)
+
+  body-same : (len : ℕ) → 3 + len ≤ length s → take len (drop 3 (s ++ t)) ≡ take len (drop 3 s)
+  body-same len h =
+      let a : 3 ≤ length s = omega arith in
+      let b : len ≤ length (drop 3 s) = rw length-drop (omega arith) in
+      ap (take len) (drop-append-le 3 s t a) ∙ take-append-le len (drop 3 s) t b
+
+  header-read : (h : Header) (sheet : Sheet) → h ≡ headerOf s → SameReading (readHeader h s sheet) (readHeader h (s ++ t) sheet)
+  unfolding readHeader
+  header-read Short sheet e = record { answer = refl; sheet = refl; consumed = λ x. absurd (let z : _≡_ {A = ℕ} 0 1 = cc in omega arith) }
+  header-read (Field tag len) sheet e =
+      let b = body-same len (header-fits s tag len e refl) in
+      record { answer = rw b; sheet = rw b; consumed = λ _. refl }
+
+  pub ready-same : (room : ℕ) (sheet : Sheet) → readyOf s ≡ true → SameReading (readField s room sheet) (readField (s ++ t) room sheet)
+  unfolding readField
+  ready-same room sheet e = by-room (ltb room 37) _ _ _ (rw (header-same e) (header-read (headerOf s) sheet refl))
+
+cut-tests : (a b c : Bool) (h : Header) → cond a false (cond b true (cond c false true)) ≡ false → cond a Short (cond b Short (cond c Short h)) ≡ Short
+cut-tests true b c h e = refl
+cut-tests false true c h e = refl
+cut-tests false false true h e = refl
+cut-tests false false false h e = absurd (let z : _≡_ {A = ℕ} 0 1 = cc in omega arith)
+
+pub cut-all : (s : List ℕ) → readyOf s ≡ false → consumedBy s ≡ length s
+unfolding headerOf readyOf
+cut-all s e =
+    ap (λ (h : Header). consumedOf h s)
+    (cut-tests (ltb (length s) 3) (ltb 60000 (wordAt s 1)) (ltb (length s - 3) (wordAt s 1)) (Field (byteAt s 0) (wordAt s 1)) e)

@@ -1,0 +1,36 @@
+-- The fields of a list counted one by one.
+-- Assumes nothing.
+use Prim.Native.Nat.{ℕ, suc, _+_, _≤_, _<_}
+use mathlib.Core.Path.{_≡_, ap}
+use mathlib.Core.List.{List}
+use native.Mathlib.Omega.{arith}
+use lib.ListN.{length, drop}
+use Rattle.headers.specs.Headers.{consumedBy}
+use Rattle.lists.specs.Lists.{fieldsOf}
+use Rattle.lists.proofs.Left.{Left, left-all, left-none, left-next}
+
+-- a field counted, and those that are left
+pub record Counted (input : List ℕ) (i n : ℕ) : Type 0 where
+  pub fields : List (List ℕ)
+  pub left : Left input i fields
+  pub count : n + length fields ≡ length (fieldsOf input)
+  -- each field has a byte
+  pub most : n ≤ i
+
+pub counted-start : (input : List ℕ) → Counted input 0 0
+counted-start input = record { fields = fieldsOf input; left = left-all input; count = omega arith; most = omega arith }
+
+pub counted-next : {input : List ℕ} {i n : ℕ} → Counted input i n → i < length input → Counted input (i + consumedBy (drop i input)) (n + 1)
+counted-next {input} {i} h g =
+    let x = left-next (h .left) g in
+    let e : length (h .fields) ≡ suc (length (x .rest)) = ap length (x .split) in
+    let f = x .further in
+    let c = h .count in
+    let m = h .most in
+    record { fields = x .rest; left = x .later; count = omega arith; most = omega arith }
+
+pub counted-end : {input : List ℕ} {i n : ℕ} → Counted input i n → length input ≤ i → n ≡ length (fieldsOf input)
+counted-end h g =
+    let e : length (h .fields) ≡ 0 = ap length (left-none (h .left) g) in
+    let c = h .count in
+    omega arith

@@ -1,0 +1,114 @@
+// An input that comes in pieces: the fields at hand are answered, and the bytes that they leave go to the front.
+use sheet::Rest;
+ghost use mathlib.Core.Path.{_≡_};
+ghost use mathlib.Core.List.{[], _∷_};
+ghost use mathlib.Core.Bool.{not};
+ghost use Prim.Native.Nat.{_+_, _-_, _≤_};
+ghost use lib.ListN.{length, drop};
+ghost use lib.Seq.{slice};
+ghost use Rattle.wire.specs.Bytes.{over};
+ghost use Rattle.sheet.specs.Range.{InRange};
+ghost use Rattle.sheet.specs.Parts.{whole};
+ghost use Rattle.fields.specs.Field.{readField, lastOf};
+ghost use Rattle.lists.specs.Lists.{fieldsOf};
+ghost use Rattle.stream.specs.Answering.{isNext, goesOn, nextOf, answeredOf, begun, Progressed, Within};
+
+// The sheet apart from its effects, how far the fields at hand are answered, whether another may be, and whether the service stops.
+pub struct Progress {
+    pub rest: Rest,
+    pub consumed: usize,
+    pub written: usize,
+    pub more: bool,
+    pub stop: bool,
+}
+
+// Answers one field, after the answers that wait in the output.
+fn answer(p: Progress, effects: &mut [i16; 1536], input: &[u8], output: &mut [u8]) -> Progress
+    requires { ⌜ Within (whole (p .rest) (now effects)) (p .consumed) (p .written) (now input) (now output) (now output) × (p .written + 37 ≤ length (now output)) ⌝ }
+    ensures { λ r. ⌜ Progressed (drop (p .consumed) (now (input .entry)) ∷ []) p (now (effects .entry)) (now (output .entry)) r (now (effects .exit)) (now (output .exit)) × (r .more ≡ not (lastOf (readField (drop (p .consumed) (now (input .entry))) 37 (whole (p .rest) (now (effects .entry))) .answer))) ⌝ }
+{
+    let rest = p.rest;
+    let consumed = p.consumed;
+    let written = p.written;
+    let r = fields::read_in(rest, effects, &input[consumed..], &mut output[written..]);
+    let next = r.rest;
+    let a = r.answer;
+    let last = fields::is_last(a);
+    Progress {
+        rest: next,
+        consumed: consumed + r.consumed,
+        written: written + r.written,
+        more: !last,
+        stop: p.stop | last,
+    }
+}
+
+// Whether a field at the front of the bytes is answered now. One that the end of input cuts is.
+fn is_next(ended: bool, room: usize, bytes: &[u8]) -> bool
+    ensures { λ r. ⌜ r ≡ isNext ended room (now (bytes .entry)) ⌝ }
+{
+    let ready = headers::is_ready(bytes);
+    (0 < bytes.len()) & (ended | ready) & (37 <= room)
+}
+
+// Answers the next field where it can be read now and its answer has room.
+fn step(
+    p: Progress,
+    effects: &mut [i16; 1536],
+    ended: bool,
+    input: &[u8],
+    output: &mut [u8],
+) -> Progress
+    requires { ⌜ Within (whole (p .rest) (now effects)) (p .consumed) (p .written) (now input) (now output) (now output) ⌝ }
+    ensures { λ r. ⌜ Progressed (nextOf ended (length (now (output .entry)) - p .written) (drop (p .consumed) (now (input .entry)))) p (now (effects .entry)) (now (output .entry)) r (now (effects .exit)) (now (output .exit)) × (r .more ≡ goesOn ended (length (now (output .entry)) - p .written) (drop (p .consumed) (now (input .entry))) (whole (p .rest) (now (effects .entry)))) ⌝ }
+{
+    let consumed = p.consumed;
+    let written = p.written;
+    if is_next(ended, output.len() - written, &input[consumed..]) {
+        return answer(p, effects, input, output);
+    }
+    let mut q = p;
+    q.more = false;
+    q
+}
+
+// Answers the fields at hand.
+pub fn answer_all(
+    rest: Rest,
+    effects: &mut [i16; 1536],
+    ended: bool,
+    input: &[u8],
+    output: &mut [u8],
+) -> Progress
+    requires { ⌜ InRange (whole rest (now effects)) × (37 ≤ length (now output)) ⌝ }
+    ensures { λ r. ⌜ Progressed (answeredOf ended (length (now (output .entry))) (fieldsOf (now (input .entry))) (whole rest (now (effects .entry)))) (begun rest) (now (effects .entry)) (now (output .entry)) r (now (effects .exit)) (now (output .exit)) ⌝ }
+    ensures { λ r. ⌜ Within (whole (r .rest) (now (effects .exit))) (r .consumed) (r .written) (now (input .entry)) (now (output .entry)) (now (output .exit)) ⌝ }
+{
+    let mut p = Progress {
+        rest,
+        consumed: 0,
+        written: 0,
+        more: true,
+        stop: false,
+    };
+    while p.more {
+        p = step(p, effects, ended, input, output);
+    }
+    p
+}
+
+// Moves the bytes between two places down to the start.
+pub fn shift(buffer: &mut [u8], from: usize, to: usize)
+    requires { ⌜ (from ≤ to) × (to ≤ length (now buffer)) ⌝ }
+    ensures { λ _. ⌜ now (buffer .exit) ≡ over (slice from to (now (buffer .entry))) (now (buffer .entry)) ⌝ }
+{
+    if from == 0 {
+        return;
+    }
+    let n = to - from;
+    let mut i = 0;
+    while i < n {
+        buffer[i] = buffer[from + i];
+        i += 1;
+    }
+}
