@@ -1,4 +1,4 @@
--- Both outcomes of a test, a whole field, which lies in the input, and bytes put over the front.
+-- Both outcomes of a test, the lines of the table of tags, a whole field, which lies in the input, and bytes put over the front.
 -- Assumes nothing.
 use Prim.Native.Nat.{ℕ, _+_, _-_, _≤_}
 use mathlib.Core.Path.{_≡_, refl, sym, _∙_}
@@ -8,17 +8,41 @@ use native.Mathlib.Nat.{zero-add}
 use native.Mathlib.Omega.{arith}
 use borrow.Author.Tests.{ltb-false}
 use lib.ListN.{length}
-use lib.Dec.{ltb}
-use Rattle.wire.specs.Bytes.{wordAt, over, Put}
+use lib.Dec.{ltb, eqb}
+use Rattle.wire.specs.Bytes.{byteAt, wordAt, signed16, over, Put}
 use Rattle.wire.proofs.Stores.{front}
+use Rattle.sheet.specs.declared.Sheet.{Sheet}
+use Rattle.sheet.specs.declared.Answered.{Answered}
+use Rattle.sheet.specs.Sheet.{fresh, withKind, withEffects, withCapacities}
+use Rattle.sheet.specs.Edits.{dueSettings, dueFill, dueEffects, dueEmpty, dueCapacities, tried}
+use Rattle.sheet.specs.Looks.{lookedExtremes, lookedUtilisation, edited}
 use Rattle.fields.specs.declared.Header.{Header}
 use Rattle.fields.specs.declared.Header.the-variants.{Field, Short}
-use Rattle.fields.specs.Field.{headerOf}
+use Rattle.fields.specs.Field.{headerOf, runOf}
 
 -- what holds of both outcomes of a test
 pub both : {A : Type 0} (P : A → Type 0) (t : Bool) {a b : A} → P a → P b → P (cond t a b)
 both P true p q = p
 both P false p q = q
+
+-- what holds of each line of the table of tags holds of the field that runs
+module _ (P : Answered → Type 0) (s : Sheet) (tag : ℕ) (b : List ℕ) where
+  abbrev b0 : ℕ
+  b0 = byteAt b 0
+
+  abbrev b1 : ℕ
+  b1 = byteAt b 1
+
+  pub run-by :
+      P (edited (tried (dueSettings b0 b1 (byteAt b 2)) s (fresh (record { method = b0; live = b1; zone = byteAt b 2 })))) →
+      P (edited (tried (dueFill s b0 b1) s (withKind s b0 b1))) →
+      P (edited (tried (dueEffects s b0 b1 (wordAt b 2) (wordAt b 4) (wordAt b 6)) s (withEffects s b0 b1 (signed16 (wordAt b 2)) (signed16 (wordAt b 4)) (signed16 (wordAt b 6))))) →
+      P (edited (tried (dueEmpty s b0) s (withKind s b0 0))) →
+      P (edited (tried (dueCapacities b0 (wordAt b 1) (wordAt b 3) (wordAt b 5)) s (withCapacities s b0 (wordAt b 1) (wordAt b 3) (wordAt b 5)))) →
+      P (lookedExtremes s b0 b1) → P (lookedUtilisation s b0) → P (runOf s tag b)
+  unfolding runOf
+  run-by p1 p2 p3 p4 p5 p6 p7 =
+      both P (eqb tag 1) p1 (both P (eqb tag 2) p2 (both P (eqb tag 3) p3 (both P (eqb tag 4) p4 (both P (eqb tag 5) p5 (both P (eqb tag 6) p6 p7)))))
 
 not-short : (t : Bool) (h : Header) (tag len : ℕ) → cond t Short h ≡ Field tag len → (t ≡ false) × (h ≡ Field tag len)
 not-short true h tag len e = absurd (let z : _≡_ {A = ℕ} 0 1 = cc in omega arith)

@@ -1,6 +1,6 @@
 -- 01, 'A sheet and its seven fields' and 'Answer fields': one field, its refusals in their order, what becomes of the sheet, and
 -- the bytes answered.
-use Prim.Native.Nat.{ℕ, _+_, _-_, _%_}
+use Prim.Native.Nat.{ℕ, _+_, _-_}
 use mathlib.Core.List.{List, [], _∷_, _++_}
 use mathlib.Core.Bool.{Bool, true, false, cond}
 use lib.ListN.{length, getD, take, drop}
@@ -57,9 +57,13 @@ runOf s tag b =
 unfoldable pub fieldOf : Sheet → ℕ → List ℕ → Answered
 fieldOf s tag b = cond (eqb (dueHeader tag (length b)) 0) (runOf s tag b) (record { answer = answer.Refused (dueHeader tag (length b)); sheet = s })
 
--- a number (8 bytes, signed), its row (1), acting cases (4), low Hp cases (4)
+-- a row (1 byte), acting cases (4), low Hp cases (4)
+abbrev pub namedBytes : ℕ → ℕ → ℕ → List ℕ
+namedBytes row acting low = row ∷ (bytes4 acting ++ bytes4 low)
+
+-- a number (8 bytes, signed), its row, acting and low cases
 unfoldable pub extremeBytes : Extreme → List ℕ
-extremeBytes x = bytes8 (bits64 (x .value)) ++ ((x .row % 256 ∷ []) ++ (bytes4 (x .acting) ++ bytes4 (x .low)))
+extremeBytes x = bytes8 (bits64 (x .value)) ++ namedBytes (x .row) (x .acting) (x .low)
 
 abbrev pub verdictByte : Bool → ℕ
 verdictByte true = 1
@@ -67,9 +71,7 @@ verdictByte false = 0
 
 -- numerator (8), denominator (8), verdict (1), row, acting, low
 unfoldable pub utilisedBytes : Utilised → List ℕ
-utilisedBytes x =
-    bytes8 (x .numerator)
-    ++ (bytes8 (x .denominator) ++ ((verdictByte (x .pass) ∷ x .row % 256 ∷ []) ++ (bytes4 (x .acting) ++ bytes4 (x .low))))
+utilisedBytes x = bytes8 (x .numerator) ++ (bytes8 (x .denominator) ++ (verdictByte (x .pass) ∷ namedBytes (x .row) (x .acting) (x .low)))
 
 -- `80 00 00` is accepted; `81 00 01` and a number is a refusal, of which 14 writes nothing; 86 and 87 with their bodies
 unfoldable pub answerBytes : Answer → List ℕ

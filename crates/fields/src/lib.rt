@@ -11,7 +11,8 @@ ghost use lib.ListN.{length, getD, drop};
 ghost use Rattle.wire.specs.Bytes.{over};
 ghost use Rattle.fields.specs.Readings.{FieldRead, ReadWithin, wholeReading};
 ghost use Rattle.sheet.specs.Parts.{whole, wholeOf};
-ghost use Rattle.fields.specs.Field.{readyOf, lastOf, consumedBy, headerOf, lengthOf, dueHeader, runOf, fieldOf, extremeBytes, verdictByte, utilisedBytes, answerBytes};
+ghost use Rattle.fields.specs.Field.{readyOf, lastOf, consumedBy, headerOf, lengthOf, dueHeader, runOf, fieldOf, namedBytes, extremeBytes, verdictByte, utilisedBytes, answerBytes};
+ghost use Rattle.fields.specs.Rows.{RowsFit};
 ghost use Rattle.sheet.specs.Range.{InRange};
 ghost use lib.Seq.{sets};
 
@@ -79,29 +80,34 @@ fn due_header(tag: u8, len: usize) -> u8
     sheet::first(tag == 0, 1, d)
 }
 
+// Writes the row, the acting and the low set of a combination.
+fn put_named(out: &mut [u8], at: usize, row: usize, acting: u32, low: u32) -> usize
+    requires { ⌜ (row < 256) × (at + 9 ≤ length (now out)) ⌝ }
+    ensures { λ r. ⌜ (r ≡ at + 9) × (now (out .exit) ≡ sets (now (out .entry)) at (namedBytes row acting low)) ⌝ }
+{
+    let b = [row as u8];
+    let to = wire::put_at(out, at, &b);
+    let to = wire::put4(out, to, acting);
+    wire::put4(out, to, low)
+}
+
 fn put_extreme(out: &mut [u8], at: usize, x: Extreme) -> usize
-    requires { ⌜ at + 17 ≤ length (now out) ⌝ }
+    requires { ⌜ (x .row < 256) × (at + 17 ≤ length (now out)) ⌝ }
     ensures { λ r. ⌜ (r ≡ at + 17) × (now (out .exit) ≡ sets (now (out .entry)) at (extremeBytes x)) ⌝ }
 {
-    let row = x.row;
-    let b = [(row % 256) as u8];
     let to = wire::put8(out, at, wire::bits_long(x.value));
-    let to = wire::put_at(out, to, &b);
-    let to = wire::put4(out, to, x.acting);
-    wire::put4(out, to, x.low)
+    put_named(out, to, x.row, x.acting, x.low)
 }
 
 fn put_utilised(out: &mut [u8], at: usize, x: Utilised) -> usize
-    requires { ⌜ at + 26 ≤ length (now out) ⌝ }
+    requires { ⌜ (x .row < 256) × (at + 26 ≤ length (now out)) ⌝ }
     ensures { λ r. ⌜ (r ≡ at + 26) × (now (out .exit) ≡ sets (now (out .entry)) at (utilisedBytes x)) ⌝ }
 {
-    let row = x.row;
-    let b = [verdict_byte(x.pass), (row % 256) as u8];
+    let b = [verdict_byte(x.pass)];
     let to = wire::put8(out, at, x.numerator);
     let to = wire::put8(out, to, x.denominator);
     let to = wire::put_at(out, to, &b);
-    let to = wire::put4(out, to, x.acting);
-    wire::put4(out, to, x.low)
+    put_named(out, to, x.row, x.acting, x.low)
 }
 
 fn verdict_byte(pass: bool) -> u8
@@ -112,7 +118,7 @@ fn verdict_byte(pass: bool) -> u8
 
 // Writes an answer over the front of the output.
 fn put_answer(out: &mut [u8], answer: Answer) -> usize
-    requires { ⌜ 37 ≤ length (now out) ⌝ }
+    requires { ⌜ (37 ≤ length (now out)) × RowsFit answer ⌝ }
     ensures { λ r. ⌜ (r ≡ length (answerBytes answer)) × (now (out .exit) ≡ over (answerBytes answer) (now (out .entry))) ⌝ }
 {
     match answer {

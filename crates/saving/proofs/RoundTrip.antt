@@ -18,7 +18,6 @@ use Rattle.sheet.specs.Range.{InRange, Whole}
 use Rattle.sheet.proofs.Refusals.{CapacitiesFit, inside, fill-allowed, effects-allowed, capacities-allowed}
 use Rattle.sheet.proofs.Kept.{fresh-in-range}
 use Rattle.fields.proofs.Kept.{read-kept}
-use Rattle.fields.specs.Field.{readField}
 use Rattle.fields.specs.Readings.{ReadThrough, end, field}
 use Rattle.saving.specs.Saved.{upTo, words, settingsField, fillField, effectsField, capacitiesField, allZero, stationBytes, caseBytes, capacityBytes, savedBy, savedBytes}
 use Rattle.saving.proofs.Framing.{Leads, leads-field, leads-then, leads-unless, leads-upTo}
