@@ -27,13 +27,15 @@ put-extreme-requires : tie.Need-put-extreme-requires
 unfolding RowsFit
 put-extreme-requires c κs =
     let h = c .before .before .before .before .before .before .before in
-    (fits (h .before .before .before .pre .1) (h .answer2 .given .1) .0, search needs)
+    let f = fits (h .before .before .before .pre .1) (h .answer2 .given .1) in
+    (omega (arith, f .0, f .1), search needs)
 
 put-extreme-requires-2 : tie.Need-put-extreme-requires-2
 unfolding RowsFit
 put-extreme-requires-2 c κs =
     let h = c .before .before .before .before .before .before .before .before .before .before .before in
-    (fits (h .before .before .before .pre .1) (h .answer2 .given .1) .1, search needs)
+    let f = fits (h .before .before .before .pre .1) (h .answer2 .given .1) in
+    (omega (arith, f .0, f .1), search needs)
 
 put-utilised-requires : tie.Need-put-utilised-requires
 unfolding RowsFit
