@@ -37,6 +37,7 @@ use Rattle.fields.proofs.Within.{within}
 use Rattle.saving.proofs.Framing.{front-read}
 use Rattle.saving.proofs.RoundTrip.{round-trip, read-unique, same-bytes}
 use Rattle.demands.specs.Demands.{Given, sheetFrom, Made, ReadOn, Readings, none, next, given, worksOut, Demand1, Demand2, lookExtremes, lookUtilisation, ExtremesAnswered, UtilisationAnswered, Demand3}
+use Rattle.answers.specs.Answers.{answerRoom}
 
 -- ---- a factored effect depends on the effects of the 32 cases alone
 sum-agrees : (n : ℕ) (f g : ℕ → ℤ) → ((k : ℕ) → k < n → f k ≡ g k) → sumℤ n f ≡ sumℤ n g
@@ -112,7 +113,7 @@ module _ (w : Sheet) (h : InRange w) where
       let p : t ≤ 15 = omega arith in
       rw (le-ltb 15 t p, ne-eqb (capacityAt w t 0) 0 (λ e. omega arith))
 
-  extremes-answered : (t j : ℕ) → t < 16 → j < 3 → (m : Made) (rest : List ℕ) → 37 ≤ length (m .out) → m .input ≡ lookExtremes t j rest →
+  extremes-answered : (t j : ℕ) → t < 16 → j < 3 → (m : Made) (rest : List ℕ) → answerRoom ≤ length (m .out) → m .input ≡ lookExtremes t j rest →
       ReadOn w m → ExtremesAnswered w t j (m .result)
   unfolding extremesAt
   extremes-answered t j a b m rest g i f =
@@ -127,7 +128,7 @@ module _ (w : Sheet) (h : InRange w) where
         minimum = minimum-agrees (w .settings) (kindAt w) _ _ same _ _ (x .1);
       }
 
-  utilisation-answered : (t : ℕ) → t < 16 → 0 < capacityAt w t 0 → (m : Made) (rest : List ℕ) → 37 ≤ length (m .out) →
+  utilisation-answered : (t : ℕ) → t < 16 → 0 < capacityAt w t 0 → (m : Made) (rest : List ℕ) → answerRoom ≤ length (m .out) →
       m .input ≡ lookUtilisation t rest → ReadOn w m → UtilisationAnswered w t (m .result)
   unfolding utilisationAt namedIn
   utilisation-answered t a c m rest g i f =

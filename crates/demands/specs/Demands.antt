@@ -15,7 +15,8 @@ use Rattle.sheet.specs.Sheet.{freshSheet, kindAt, effectAt, capacityAt}
 use Rattle.sheet.specs.Looks.{capacitiesAt}
 use Rattle.sheet.specs.Range.{InRange}
 use Rattle.fields.specs.declared.Reading.{Reading}
-use Rattle.fields.specs.Field.{readField, answerBytes}
+use Rattle.fields.specs.Field.{readField}
+use Rattle.answers.specs.Answers.{answerBytes, answerRoom}
 use Rattle.fields.specs.Readings.{FieldRead, ReadThrough}
 use Rattle.saving.specs.Saved.{savedBytes}
 
@@ -102,7 +103,7 @@ pub record UtilisationAnswered (w : Sheet) (station : ℕ) (r : Reading) : Type 
 
 -- Demand 3: at each station and component, and at each station with capacities, with room for an answer
 pub record Demand3 (w s : Sheet) : Type 0 where
-  pub extremes : (station component : ℕ) → station < 16 → component < 3 → (m : Made) (rest : List ℕ) → 37 ≤ length (m .out) →
+  pub extremes : (station component : ℕ) → station < 16 → component < 3 → (m : Made) (rest : List ℕ) → answerRoom ≤ length (m .out) →
       m .input ≡ lookExtremes station component rest → ReadOn s m → ExtremesAnswered w station component (m .result)
-  pub utilisation : (station : ℕ) → station < 16 → 0 < capacityAt w station 0 → (m : Made) (rest : List ℕ) → 37 ≤ length (m .out) →
+  pub utilisation : (station : ℕ) → station < 16 → 0 < capacityAt w station 0 → (m : Made) (rest : List ℕ) → answerRoom ≤ length (m .out) →
       m .input ≡ lookUtilisation station rest → ReadOn s m → UtilisationAnswered w station (m .result)

@@ -10,7 +10,8 @@ use Rattle.sheet.specs.declared.Sheet.{Sheet}
 use Rattle.headers.specs.declared.Header.{Header}
 use Rattle.headers.specs.declared.Header.the-variants.{Field, Short}
 use Rattle.headers.specs.Headers.{headerOf, consumedOf, consumedBy}
-use Rattle.fields.specs.Field.{readHeader, readField, answerBytes}
+use Rattle.fields.specs.Field.{readHeader, readField}
+use Rattle.answers.specs.Answers.{answerBytes, answerRoom}
 
 header-consumed : (h : Header) (input : List ℕ) (s : Sheet) → readHeader h input s .consumed ≡ consumedOf h input
 unfolding readHeader
@@ -23,15 +24,15 @@ header-written Short input s = refl
 header-written (Field tag len) input s = refl
 
 module _ (input : List ℕ) (s : Sheet) where
-  roomy : (room : ℕ) → 37 ≤ room → readField input room s ≡ readHeader (headerOf input) input s
+  roomy : (room : ℕ) → answerRoom ≤ room → readField input room s ≡ readHeader (headerOf input) input s
   unfolding readField
-  roomy room h = rw (le-ltb room 37 h)
+  roomy room h = rw (le-ltb room answerRoom h)
 
-  pub same-with-room : (room : ℕ) → 37 ≤ room → readField input room s ≡ readField input 37 s
-  same-with-room room h = roomy room h ∙ sym (roomy 37 (omega arith))
+  pub same-with-room : (room : ℕ) → answerRoom ≤ room → readField input room s ≡ readField input answerRoom s
+  same-with-room room h = roomy room h ∙ sym (roomy answerRoom (omega arith))
 
-  pub read-consumed : readField input 37 s .consumed ≡ consumedBy input
-  read-consumed = rw (roomy 37 (omega arith)) (header-consumed (headerOf input) input s)
+  pub read-consumed : readField input answerRoom s .consumed ≡ consumedBy input
+  read-consumed = rw (roomy answerRoom (omega arith)) (header-consumed (headerOf input) input s)
 
-  pub read-written : readField input 37 s .written ≡ length (answerBytes (readField input 37 s .answer))
-  read-written = rw (roomy 37 (omega arith)) (header-written (headerOf input) input s)
+  pub read-written : readField input answerRoom s .written ≡ length (answerBytes (readField input answerRoom s .answer))
+  read-written = rw (roomy answerRoom (omega arith)) (header-written (headerOf input) input s)

@@ -18,8 +18,9 @@ use Rattle.sheet.specs.Looks.{unlessDue, lookedExtremes, lookedUtilisation, edi
 use Rattle.headers.specs.declared.Header.{Header}
 use Rattle.headers.specs.declared.Header.the-variants.{Field, Short}
 use Rattle.headers.specs.Headers.{headerOf, lengthOf, dueHeader, consumedBy, consumedOf, readyOf}
-use Rattle.fields.specs.Field.{runOf, fieldOf, readHeader, readField, lastOf}
-use Rattle.fields.proofs.Laws.{both}
+use Rattle.fields.specs.Field.{runOf, fieldOf, readHeader, readField}
+use Rattle.answers.specs.Answers.{lastOf, answerRoom}
+use Rattle.wire.proofs.Cases.{both}
 use Rattle.fields.proofs.Ready.{header-same}
 
 abbrev NotLast : Answer → Type 0
@@ -106,10 +107,10 @@ header-last (Field tag len) input s e =
     let n = sym (field-not-last s tag (take len (drop 3 input))) ∙ e in
     absurd (let z : _≡_ {A = ℕ} 0 1 = cc in omega arith)
 
-last-short : (input : List ℕ) (s : Sheet) → lastOf (readField input 37 s .answer) ≡ true → headerOf input ≡ Short
+last-short : (input : List ℕ) (s : Sheet) → lastOf (readField input answerRoom s .answer) ≡ true → headerOf input ≡ Short
 unfolding readField
 last-short input s e = header-last (headerOf input) input s e
 
-pub last-all : (input t : List ℕ) (s : Sheet) → readyOf input ≡ true → lastOf (readField input 37 s .answer) ≡ true →
+pub last-all : (input t : List ℕ) (s : Sheet) → readyOf input ≡ true → lastOf (readField input answerRoom s .answer) ≡ true →
     consumedBy (input ++ t) ≡ length (input ++ t)
 last-all input t s r e = ap (λ (h : Header). consumedOf h (input ++ t)) (header-same input t r ∙ last-short input s e)

@@ -1,4 +1,5 @@
 pub mod Laws
+pub mod Named
 pub mod Kept
 pub mod Refused
 pub mod Within

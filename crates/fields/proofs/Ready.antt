@@ -16,8 +16,9 @@ use Rattle.sheet.specs.declared.Sheet.{Sheet}
 use Rattle.headers.specs.declared.Header.{Header}
 use Rattle.headers.specs.declared.Header.the-variants.{Field, Short}
 use Rattle.fields.specs.declared.Reading.{Reading}
-use Rattle.headers.specs.Headers.{headerOf, consumedOf, consumedBy, readyOf}
-use Rattle.fields.specs.Field.{lastOf, readHeader, readField}
+use Rattle.headers.specs.Headers.{longestBody, headerOf, consumedOf, consumedBy, readyOf}
+use Rattle.answers.specs.Answers.{lastOf, answerRoom}
+use Rattle.fields.specs.Field.{readHeader, readField}
 use Rattle.headers.proofs.Whole.{header-fits}
 
 -- the second reading has the first one's answer and sheet, and consumes as much unless it is a 3
@@ -49,11 +50,11 @@ module _ (s t : List ℕ) where
   pub header-same : readyOf s ≡ true → headerOf (s ++ t) ≡ headerOf s
   unfolding headerOf readyOf
   header-same e =
-      let x = ready-tests (ltb (length s) 3) (ltb 60000 (wordAt s 1)) (ltb (length s - 3) (wordAt s 1)) e in
+      let x = ready-tests (ltb (length s) 3) (ltb longestBody (wordAt s 1)) (ltb (length s - 3) (wordAt s 1)) e in
       let a : 3 ≤ length s = ltb-false (length s) 3 (x .0) in
       let l = length-append s t in
       let a′ : 3 ≤ length (s ++ t) = omega arith in
-      let c : (ltb 60000 (wordAt s 1) ≡ true) ⊎ (ltb (length (s ++ t) - 3) (wordAt s 1) ≡ ltb (length s - 3) (wordAt s 1)) =
+      let c : (ltb longestBody (wordAt s 1) ≡ true) ⊎ (ltb (length (s ++ t) - 3) (wordAt s 1) ≡ ltb (length s - 3) (wordAt s 1)) =
       ⊎-elim inl
       (λ b.
       let k : wordAt s 1 ≤ length s - 3 = ltb-false (length s - 3) (wordAt s 1) (b .1) in
@@ -61,7 +62,7 @@ module _ (s t : List ℕ) where
       inr (le-ltb (length (s ++ t) - 3) (wordAt s 1) k′ ∙ sym (b .1)))
       (x .1) in
       rw (le-ltb (length (s ++ t)) 3 a′, x .0, word-same a, byte-same 0 (omega arith))
-      (later-tests (ltb 60000 (wordAt s 1)) (ltb (length (s ++ t) - 3) (wordAt s 1)) (ltb (length s - 3) (wordAt s 1)) (Field (byteAt s 0) (wordAt s 1)) c)
+      (later-tests (ltb longestBody (wordAt s 1)) (ltb (length (s ++ t) - 3) (wordAt s 1)) (ltb (length s - 3) (wordAt s 1)) (Field (byteAt s 0) (wordAt s 1)) c)
 
   body-same : (len : ℕ) → 3 + len ≤ length s → take len (drop 3 (s ++ t)) ≡ take len (drop 3 s)
   body-same len h =
@@ -78,7 +79,7 @@ module _ (s t : List ℕ) where
 
   pub ready-same : (room : ℕ) (sheet : Sheet) → readyOf s ≡ true → SameReading (readField s room sheet) (readField (s ++ t) room sheet)
   unfolding readField
-  ready-same room sheet e = by-room (ltb room 37) _ _ _ (rw (header-same e) (header-read (headerOf s) sheet refl))
+  ready-same room sheet e = by-room (ltb room answerRoom) _ _ _ (rw (header-same e) (header-read (headerOf s) sheet refl))
 
 cut-tests : (a b c : Bool) (h : Header) → cond a false (cond b true (cond c false true)) ≡ false → cond a Short (cond b Short (cond c Short h)) ≡ Short
 cut-tests true b c h e = refl
@@ -90,4 +91,4 @@ pub cut-all : (s : List ℕ) → readyOf s ≡ false → consumedBy s ≡ length
 unfolding headerOf readyOf
 cut-all s e =
     ap (λ (h : Header). consumedOf h s)
-    (cut-tests (ltb (length s) 3) (ltb 60000 (wordAt s 1)) (ltb (length s - 3) (wordAt s 1)) (Field (byteAt s 0) (wordAt s 1)) e)
+    (cut-tests (ltb (length s) 3) (ltb longestBody (wordAt s 1)) (ltb (length s - 3) (wordAt s 1)) (Field (byteAt s 0) (wordAt s 1)) e)

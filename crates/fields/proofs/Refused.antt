@@ -16,7 +16,8 @@ use Rattle.headers.specs.declared.Header.the-variants.{Field, Short}
 use Rattle.fields.specs.declared.Reading.{Reading}
 use Rattle.headers.specs.Headers.{headerOf, dueHeader}
 use Rattle.fields.specs.Field.{runOf, fieldOf, readHeader, readField}
-use Rattle.fields.proofs.Laws.{both}
+use Rattle.wire.proofs.Cases.{both}
+use Rattle.answers.specs.Answers.{answerRoom}
 
 -- unless it is accepted, the old sheet is handed back
 abbrev Unedited : Sheet → Answered → Type 0
@@ -49,4 +50,4 @@ header-unread (Field tag len) input s = field-unedited s tag (take len (drop 3 i
 
 pub refused-unchanged : (input : List ℕ) (room : ℕ) (s : Sheet) → (readField input room s .answer ≡ Accepted → ⊥) → readField input room s .sheet ≡ s
 unfolding readField
-refused-unchanged input room s = both (Unread s) (ltb room 37) (λ _. refl) (header-unread (headerOf input) input s)
+refused-unchanged input room s = both (Unread s) (ltb room answerRoom) (λ _. refl) (header-unread (headerOf input) input s)

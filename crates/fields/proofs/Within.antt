@@ -11,7 +11,7 @@ use lib.ListN.{length}
 use lib.Dec.{eqb}
 use lib.Seq.{sets}
 use Rattle.wire.specs.Bytes.{bytes4, bytes8, over}
-use Rattle.wire.proofs.Cases.{lt-or-ge}
+use Rattle.wire.proofs.Cases.{lt-or-ge, both}
 use Rattle.wire.proofs.Stores.{put-long, front}
 use Rattle.sheet.specs.declared.Sheet.{Sheet}
 use Rattle.sheet.specs.declared.Answer.{Answer}
@@ -21,42 +21,31 @@ use Rattle.headers.specs.declared.Header.{Header}
 use Rattle.headers.specs.declared.Header.the-variants.{Field, Short}
 use Rattle.fields.specs.declared.Reading.{Reading}
 use Rattle.headers.specs.Headers.{headerOf}
-use Rattle.fields.specs.Field.{reading, refusedWith, readHeader, readField, extremeBytes, utilisedBytes, answerBytes}
+use Rattle.fields.specs.Field.{reading, refusedWith, readHeader, readField}
+use Rattle.answers.specs.Answers.{extremeBytes, utilisedBytes, answerBytes, answerRoom}
 use Rattle.fields.specs.Readings.{FieldRead, ReadWithin}
-use Rattle.fields.proofs.Laws.{both}
 use Rattle.headers.proofs.Whole.{header-fits}
 use Rattle.fields.proofs.Kept.{read-kept}
-
--- 37 bytes of output are room for any answer
-pub answer-fits : (a : Answer) → length (answerBytes a) ≤ 37
-unfolding answerBytes extremeBytes utilisedBytes bytes8 bytes4
-answer-fits answer.Accepted = let h : 3 ≤ 37 = omega arith in h
-answer-fits (answer.Refused n) =
-    let h : 0 ≤ 37 = omega arith in
-    let g : 4 ≤ 37 = omega arith in
-    both (λ (w : List ℕ). length w ≤ 37) (eqb n 14) h g
-answer-fits (answer.Extremes x) = let h : 37 ≤ 37 = omega arith in h
-answer-fits (answer.Utilisation x) = let h : 29 ≤ 37 = omega arith in h
 
 record Fits (input : List ℕ) (room : ℕ) (r : Reading) : Type 0 where
   consumed : r .consumed ≤ length input
   written : r .written ≡ length (answerBytes (r .answer))
   answer : length (answerBytes (r .answer)) ≤ room
 
-header-room : (h : Header) (input : List ℕ) (room : ℕ) (s : Sheet) → 37 ≤ room → h ≡ headerOf input → Fits input room (readHeader h input s)
+header-room : (h : Header) (input : List ℕ) (room : ℕ) (s : Sheet) → answerRoom ≤ room → h ≡ headerOf input → Fits input room (readHeader h input s)
 unfolding readHeader
 header-room Short input room s g e = record { consumed = omega arith; written = refl; answer = omega (arith, answer-fits (answer.Refused 3)) }
 header-room (Field tag len) input room s g e = record {
   consumed = header-fits input tag len e refl;
   written = refl;
-  answer = let a : length (answerBytes (readHeader (Field tag len) input s .answer)) ≤ 37 = answer-fits (readHeader (Field tag len) input s .answer) in omega arith;
+  answer = let a : length (answerBytes (readHeader (Field tag len) input s .answer)) ≤ answerRoom = answer-fits (readHeader (Field tag len) input s .answer) in omega arith;
 }
 
 read-room : (input : List ℕ) (room : ℕ) (s : Sheet) → Fits input room (readField input room s)
 unfolding readField answerBytes
 read-room input room s =
-    ⊎-elim (λ l. subst outcome (sym (lt-ltb room 37 l)) (record { consumed = omega arith; written = refl; answer = omega arith }))
-    (λ g. subst outcome (sym (le-ltb room 37 g)) (header-room (headerOf input) input room s g refl)) (lt-or-ge room 37)
+    ⊎-elim (λ l. subst outcome (sym (lt-ltb room answerRoom l)) (record { consumed = omega arith; written = refl; answer = omega arith }))
+    (λ g. subst outcome (sym (le-ltb room answerRoom g)) (header-room (headerOf input) input room s g refl)) (lt-or-ge room answerRoom)
   where
     outcome : Bool → Type 0
     outcome b = Fits input room (cond b (reading 0 (refusedWith 14 s)) (readHeader (headerOf input) input s))

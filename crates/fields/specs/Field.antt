@@ -1,18 +1,14 @@
--- 01, 'A sheet and its seven fields' and 'Answer fields': one field, its refusals in their order, what becomes of the sheet, and
--- the bytes answered.
-use Prim.Native.Nat.{ℕ, _+_, _-_, _%_}
-use mathlib.Core.List.{List, [], _∷_, _++_}
-use mathlib.Core.Bool.{Bool, true, false, cond}
-use lib.ListN.{length, getD, take, drop}
+-- 01, 'A sheet and its seven fields' and 'Answer fields': one field, its refusals in their order, and what becomes of the sheet.
+use Prim.Native.Nat.{ℕ}
+use mathlib.Core.List.{List}
+use mathlib.Core.Bool.{cond}
+use lib.ListN.{length, take, drop}
 use lib.Dec.{ltb, eqb}
-use Rattle.wire.specs.Bytes.{byteAt, wordAt, signed16, bits64, bytes4, bytes8}
+use Rattle.wire.specs.Bytes.{byteAt, wordAt, signed16}
 use Rattle.standard.specs.Rows.{settingsOf}
 use Rattle.sheet.specs.declared.Sheet.{Sheet}
 use Rattle.sheet.specs.declared.Answered.{Answered}
-use Rattle.sheet.specs.declared.Answer.{Answer}
 use Rattle.sheet.specs.declared.Answer.the-variants as answer
-use Rattle.envelope.specs.declared.Extreme.{Extreme}
-use Rattle.envelope.specs.declared.Utilised.{Utilised}
 use Rattle.sheet.specs.Looks.{lookedExtremes, lookedUtilisation, edited}
 use Rattle.sheet.specs.Sheet.{fresh, withKind, withEffects, withCapacities}
 use Rattle.refusals.specs.Refusals.{dueSettings, dueCapacities}
@@ -20,6 +16,7 @@ use Rattle.sheet.specs.Edits.{dueFill, dueEffects, dueEmpty, tried}
 use Rattle.headers.specs.declared.Header.{Header}
 use Rattle.headers.specs.declared.Header.the-variants.{Field, Short}
 use Rattle.headers.specs.Headers.{headerOf, dueHeader, consumedOf}
+use Rattle.answers.specs.Answers.{answerRoom, answerBytes}
 use Rattle.fields.specs.declared.Reading.{Reading}
 
 -- the table of tags: each body's values in order, the refusals that they call for, and the effect
@@ -44,27 +41,6 @@ runOf s tag b =
 unfoldable pub fieldOf : Sheet → ℕ → List ℕ → Answered
 fieldOf s tag b = cond (eqb (dueHeader tag (length b)) 0) (runOf s tag b) (record { answer = answer.Refused (dueHeader tag (length b)); sheet = s })
 
--- a number (8 bytes, signed), its row (1), acting cases (4), low Hp cases (4)
-unfoldable pub extremeBytes : Extreme → List ℕ
-extremeBytes x = bytes8 (bits64 (x .value)) ++ ((x .row % 256 ∷ []) ++ (bytes4 (x .acting) ++ bytes4 (x .low)))
-
-abbrev pub verdictByte : Bool → ℕ
-verdictByte true = 1
-verdictByte false = 0
-
--- numerator (8), denominator (8), verdict (1), row, acting, low
-unfoldable pub utilisedBytes : Utilised → List ℕ
-utilisedBytes x =
-    bytes8 (x .numerator)
-    ++ (bytes8 (x .denominator) ++ ((verdictByte (x .pass) ∷ x .row % 256 ∷ []) ++ (bytes4 (x .acting) ++ bytes4 (x .low))))
-
--- `80 00 00` is accepted; `81 00 01` and a number is a refusal, of which 14 writes nothing; 86 and 87 with their bodies
-unfoldable pub answerBytes : Answer → List ℕ
-answerBytes answer.Accepted = 0x80 ∷ 0 ∷ 0 ∷ []
-answerBytes (answer.Refused n) = cond (eqb n 14) [] (0x81 ∷ 0 ∷ 1 ∷ n ∷ [])
-answerBytes (answer.Extremes x) = (0x86 ∷ 0 ∷ 34 ∷ []) ++ (extremeBytes (x .maximum) ++ extremeBytes (x .minimum))
-answerBytes (answer.Utilisation x) = (0x87 ∷ 0 ∷ 26 ∷ []) ++ utilisedBytes x
-
 abbrev pub reading : ℕ → Answered → Reading
 reading n a = record { answer = a .answer; sheet = a .sheet; consumed = n; written = length (answerBytes (a .answer)) }
 
@@ -75,13 +51,6 @@ unfoldable pub readHeader : Header → List ℕ → Sheet → Reading
 readHeader Short input s = reading (consumedOf Short input) (refusedWith 3 s)
 readHeader (Field tag len) input s = reading (consumedOf (Field tag len) input) (fieldOf s tag (take len (drop 3 input)))
 
--- 14 comes first: under 37 bytes of output for a field; it consumes nothing
+-- 14 comes first: too little output for any answer; it consumes nothing
 unfoldable pub readField : List ℕ → ℕ → Sheet → Reading
-readField input room s = cond (ltb room 37) (reading 0 (refusedWith 14 s)) (readHeader (headerOf input) input s)
-
--- a service stops after 3
-abbrev pub lastOf : Answer → Bool
-lastOf answer.Accepted = false
-lastOf (answer.Extremes x) = false
-lastOf (answer.Utilisation x) = false
-lastOf (answer.Refused n) = eqb n 3
+readField input room s = cond (ltb room answerRoom) (reading 0 (refusedWith 14 s)) (readHeader (headerOf input) input s)

@@ -11,7 +11,8 @@ use Rattle.sheet.specs.declared.Answer.the-variants.{Accepted}
 use Rattle.sheet.specs.Parts.{whole}
 use Rattle.fields.specs.declared.Reading.{Reading}
 use Rattle.fields.specs.declared.ReadRest.{ReadRest}
-use Rattle.fields.specs.Field.{readField, answerBytes}
+use Rattle.fields.specs.Field.{readField}
+use Rattle.answers.specs.Answers.{answerBytes, answerRoom}
 
 -- the input, the output before, the sheet given, the result and the output after, whose later bytes are as they were
 pub record FieldRead (input out : List ℕ) (s : Sheet) (r : Reading) (out′ : List ℕ) : Type 0 where
@@ -25,8 +26,8 @@ wholeReading r effects = record { answer = r .answer; sheet = whole (r .rest) ef
 -- every field of the bytes is accepted, from a sheet to a sheet
 pub data ReadThrough : List ℕ → Sheet → Sheet → Type 0 where
   end : {s : Sheet} → ReadThrough [] s s
-  field : {b : ℕ} {bs : List ℕ} {s s′ : Sheet} → readField (b ∷ bs) 37 s .answer ≡ Accepted →
-      ReadThrough (drop (readField (b ∷ bs) 37 s .consumed) (b ∷ bs)) (readField (b ∷ bs) 37 s .sheet) s′ → ReadThrough (b ∷ bs) s s′
+  field : {b : ℕ} {bs : List ℕ} {s s′ : Sheet} → readField (b ∷ bs) answerRoom s .answer ≡ Accepted →
+      ReadThrough (drop (readField (b ∷ bs) answerRoom s .consumed) (b ∷ bs)) (readField (b ∷ bs) answerRoom s .sheet) s′ → ReadThrough (b ∷ bs) s s′
 
 -- what a caller that only goes on needs of a reading: the sheet in range, the places within the input and the output
 pub record ReadWithin (input out : List ℕ) (r : Reading) (out′ : List ℕ) : Type 0 where

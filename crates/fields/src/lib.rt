@@ -1,21 +1,16 @@
 // Reads one tagged field, edits the sheet and answers.
+use answers::ANSWER_ROOM;
 use effects::Effects;
-use envelope::Extreme;
-use envelope::Utilised;
 use headers::Header;
 use sheet::Answer;
 use sheet::AnsweredRest;
 use sheet::Rest;
 use sheet::Sheet;
 ghost use mathlib.Core.Path.{_≡_};
-ghost use Prim.Native.Nat.{ℕ, _+_, _*_, _<_, _≤_};
-ghost use lib.ListN.{length, getD, drop};
-ghost use Rattle.wire.specs.Bytes.{over};
 ghost use Rattle.fields.specs.Readings.{FieldRead, ReadWithin, wholeReading};
 ghost use Rattle.sheet.specs.Parts.{whole, wholeOf};
-ghost use Rattle.fields.specs.Field.{lastOf, runOf, fieldOf, extremeBytes, verdictByte, utilisedBytes, answerBytes};
+ghost use Rattle.fields.specs.Field.{runOf, fieldOf};
 ghost use Rattle.sheet.specs.Range.{InRange};
-ghost use lib.Seq.{sets};
 
 pub struct Reading {
     pub answer: Answer,
@@ -30,63 +25,6 @@ pub struct ReadRest {
     pub rest: Rest,
     pub consumed: usize,
     pub written: usize,
-}
-
-fn put_extreme(out: &mut [u8], at: usize, x: Extreme) -> usize
-    requires { ⌜ at + 17 ≤ length (now out) ⌝ }
-    ensures { λ r. ⌜ (r ≡ at + 17) × (now (out .exit) ≡ sets (now (out .entry)) at (extremeBytes x)) ⌝ }
-{
-    let row = x.row;
-    let b = [(row % 256) as u8];
-    let to = wire::put8(out, at, wire::bits_long(x.value));
-    let to = wire::put_at(out, to, &b);
-    let to = wire::put4(out, to, x.acting);
-    wire::put4(out, to, x.low)
-}
-
-fn put_utilised(out: &mut [u8], at: usize, x: Utilised) -> usize
-    requires { ⌜ at + 26 ≤ length (now out) ⌝ }
-    ensures { λ r. ⌜ (r ≡ at + 26) × (now (out .exit) ≡ sets (now (out .entry)) at (utilisedBytes x)) ⌝ }
-{
-    let row = x.row;
-    let b = [verdict_byte(x.pass), (row % 256) as u8];
-    let to = wire::put8(out, at, x.numerator);
-    let to = wire::put8(out, to, x.denominator);
-    let to = wire::put_at(out, to, &b);
-    let to = wire::put4(out, to, x.acting);
-    wire::put4(out, to, x.low)
-}
-
-fn verdict_byte(pass: bool) -> u8
-    ensures { λ r. ⌜ r ≡ verdictByte pass ⌝ }
-{
-    if pass { 1 } else { 0 }
-}
-
-// Writes an answer over the front of the output.
-fn put_answer(out: &mut [u8], answer: Answer) -> usize
-    requires { ⌜ 37 ≤ length (now out) ⌝ }
-    ensures { λ r. ⌜ (r ≡ length (answerBytes answer)) × (now (out .exit) ≡ over (answerBytes answer) (now (out .entry))) ⌝ }
-{
-    match answer {
-        Answer::Accepted => wire::put_at(out, 0, b"\x80\x00\x00"),
-        Answer::Refused(n) => {
-            if n == 14 {
-                return 0;
-            }
-            let b = [0x81u8, 0, 1, n];
-            wire::put_at(out, 0, &b)
-        }
-        Answer::Extremes(x) => {
-            let to = wire::put_at(out, 0, b"\x86\x00\x22");
-            let to = put_extreme(out, to, x.maximum);
-            put_extreme(out, to, x.minimum)
-        }
-        Answer::Utilisation(x) => {
-            let to = wire::put_at(out, 0, b"\x87\x00\x1a");
-            put_utilised(out, to, x)
-        }
-    }
 }
 
 pub fn read_field(sheet: Sheet, input: &[u8], out: &mut [u8]) -> Reading
@@ -160,7 +98,7 @@ pub fn read_in(rest: Rest, effects: &mut Effects, input: &[u8], out: &mut [u8]) 
     requires { ⌜ InRange (whole rest (now effects)) ⌝ }
     ensures { λ r. ⌜ FieldRead (now (input .entry)) (now (out .entry)) (whole rest (now (effects .entry))) (wholeReading r (now (effects .exit))) (now (out .exit)) × ReadWithin (now (input .entry)) (now (out .entry)) (wholeReading r (now (effects .exit))) (now (out .exit)) ⌝ }
 {
-    if out.len() < 37 {
+    if out.len() < ANSWER_ROOM {
         return ReadRest {
             answer: Answer::Refused(14),
             rest,
@@ -171,7 +109,7 @@ pub fn read_in(rest: Rest, effects: &mut Effects, input: &[u8], out: &mut [u8]) 
     let h = headers::header_of(input);
     let Header::Field { tag, len } = h else {
         let refused = Answer::Refused(3);
-        let written = put_answer(out, refused);
+        let written = answers::put_answer(out, refused);
         return ReadRest {
             answer: refused,
             rest,
@@ -181,24 +119,12 @@ pub fn read_in(rest: Rest, effects: &mut Effects, input: &[u8], out: &mut [u8]) 
     };
     let a = field_in(rest, effects, tag, &input[3..3 + len]);
     let answer = a.answer;
-    let written = put_answer(out, answer);
+    let written = answers::put_answer(out, answer);
     let r = a.rest;
     ReadRest {
         answer,
         rest: r,
         consumed: 3 + len,
         written,
-    }
-}
-
-// Whether the service stops after this answer.
-pub fn is_last(answer: Answer) -> bool
-    ensures { λ r. ⌜ r ≡ lastOf answer ⌝ }
-{
-    match answer {
-        Answer::Accepted => false,
-        Answer::Extremes(_) => false,
-        Answer::Utilisation(_) => false,
-        Answer::Refused(n) => n == 3,
     }
 }

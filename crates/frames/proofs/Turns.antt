@@ -22,6 +22,7 @@ use Rattle.stream.specs.Turns.{Turned}
 use Rattle.stream.proofs.Ends.{end-fields}
 use Rattle.frames.specs.declared.Service.{Service}
 use Rattle.frames.specs.Filled.{Filled}
+use Rattle.answers.specs.Answers.{answerRoom}
 
 not-not : (a : Bool) → not (not a) ≡ a
 not-not true = refl
@@ -51,11 +52,11 @@ handed-is w o {o′} {written} {given} l e k n g =
     let m : given ≡ length w = (rw z at g) ∙ (length-take-le written o′ (omega arith) ∙ n) in
     rw (m, e) (take-at w (drop (length w) o) (length w) refl)
 
-ended-all : (ended : Bool) (w : List ℕ) (room : ℕ) (s : Sheet) → ended ≡ true → readyOf w ≡ false → 37 ≤ room → answeredOf ended room (fieldsOf w) s ≡ fieldsOf w
+ended-all : (ended : Bool) (w : List ℕ) (room : ℕ) (s : Sheet) → ended ≡ true → readyOf w ≡ false → answerRoom ≤ room → answeredOf ended room (fieldsOf w) s ≡ fieldsOf w
 ended-all ended w room s y e h = rw y (end-fields w room s e h)
 
 pub turned : (s : Service) (effects : List ℤ) (i o : List ℕ) (more : Bool) {count given : ℕ} {ok : Bool} {p : Progress} {effects′ : List ℤ} {i₁ i₂ o′ : List ℕ} →
-    37 ≤ length o → Filled (s .held) count more i i₁ →
+    answerRoom ≤ length o → Filled (s .held) count more i i₁ →
     Progressed (answeredOf (not more) (length o) (fieldsOf (take (count - 0) (drop 0 i₁))) (whole (s .rest) effects)) (begun (s .rest)) effects o p effects′ o′ →
     p .written ≤ length o →
     (given ≡ length (take (p .written - 0) (drop 0 o′))) × (length (take (p .written - 0) (drop 0 o′)) ≡ 0 → ok ≡ true) →

@@ -1,15 +1,18 @@
 // Reads tagged fields from standard input and writes one answer field for each, as soon as the field is complete.
+use effects::EFFECTS;
+use effects::Effects;
 use sheet::Rest;
 ghost use mathlib.Core.Path.{_≡_};
 ghost use mathlib.Core.Bool.{true, cond};
 ghost use Prim.Native.Nat.{_-_, _≤_, _<_};
 ghost use lib.ListN.{length, take};
-ghost use Rattle.effects.specs.Effects.{zeros};
+ghost use Rattle.effects.specs.Effects.{zeros, effectCount};
 ghost use Rattle.sheet.specs.Sheet.{freshSheet};
 ghost use Rattle.sheet.specs.Range.{InRange};
 ghost use Rattle.sheet.specs.Parts.{whole};
 ghost use Rattle.stream.specs.Turns.{Turned, Served};
 ghost use Rattle.frames.specs.Filled.{Filled};
+ghost use Rattle.answers.specs.Answers.{answerRoom};
 
 // The turns left after one: a loop ends where it is not to go on.
 fn remaining(more: bool, left: u64) -> u64
@@ -109,8 +112,8 @@ pub struct Service {
 }
 
 // One read at most, the answers to the fields that are then at hand, and one write of them.
-fn turn(s: Service, effects: &mut [i16; 1536], input: &mut [u8], output: &mut [u8]) -> Service
-    requires { ⌜ InRange (whole (s .rest) (now effects)) × (s .held ≤ length (now input)) × (37 ≤ length (now output)) ⌝ }
+fn turn(s: Service, effects: &mut Effects, input: &mut [u8], output: &mut [u8]) -> Service
+    requires { ⌜ InRange (whole (s .rest) (now effects)) × (s .held ≤ length (now input)) × (answerRoom ≤ length (now output)) ⌝ }
     ensures { λ r. ⌜ Turned (length (now (output .entry))) (whole (s .rest) (now (effects .entry))) (take (s .held) (now (input .entry))) (take (r .given) (now (output .exit))) (whole (r .rest) (now (effects .exit))) (take (r .held) (now (input .exit))) (r .more) ⌝ }
     ensures { λ r. ⌜ InRange (whole (r .rest) (now (effects .exit))) × (r .held ≤ length (now (input .entry))) × (length (now (input .exit)) ≡ length (now (input .entry))) × (length (now (output .exit)) ≡ length (now (output .entry))) ⌝ }
 {
@@ -133,8 +136,8 @@ fn turn(s: Service, effects: &mut [i16; 1536], input: &mut [u8], output: &mut [u
 }
 
 // A proved loop ends, and no fact says that the input does: the turns are counted from a number that no run uses up.
-fn serve(effects: &mut [i16; 1536], input: &mut [u8], output: &mut [u8]) -> Service
-    requires { ⌜ (now effects ≡ zeros 1536) × (37 ≤ length (now output)) ⌝ }
+fn serve(effects: &mut Effects, input: &mut [u8], output: &mut [u8]) -> Service
+    requires { ⌜ (now effects ≡ zeros effectCount) × (answerRoom ≤ length (now output)) ⌝ }
     ensures { λ r. ⌜ Served (length (now (output .entry))) freshSheet (whole (r .rest) (now (effects .exit))) (take (r .held) (now (input .exit))) (r .more) ⌝ }
 {
     let rest = Rest::fresh(standard::fresh_settings());
@@ -154,7 +157,7 @@ fn serve(effects: &mut [i16; 1536], input: &mut [u8], output: &mut [u8]) -> Serv
 
 // The input buffer holds the largest field, 60,003 bytes.
 fn main() {
-    let mut effects = [0i16; 1536];
+    let mut effects = [0i16; EFFECTS];
     let mut input = io::large_buffer();
     let mut output = io::large_buffer();
     serve(&mut effects, &mut input, &mut output);

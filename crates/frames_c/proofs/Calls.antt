@@ -28,6 +28,7 @@ use Rattle.lists.proofs.Joins.{kept-after, answers-long}
 use Rattle.frames_c.specs.Lists.{loaded, dueState, short, dueAnswer, dueRun, AnswerDone, RunDone}
 use Rattle.frames_c.specs.Loop.{State, starting, steppedAll, stateOf, Room, countOf}
 use Rattle.frames_c.proofs.Loop.{sheet-after, refusal-after, written-after, output-after}
+use Rattle.answers.specs.Answers.{answerRoom}
 
 -- the end of the loop over a state, and over the fields of a call
 pub load-is : (state : List ℕ) (p : Progress) (effects : List ℤ) (o : List ℕ) {o′ : List ℕ} →
@@ -42,7 +43,7 @@ record Ended (input : List ℕ) (s : Sheet) (o : List ℕ) (q : Progress) (effec
   written : q .written ≡ length (bytesOf (answersTo (fieldsOf input) s))
   output : o′ ≡ over (bytesOf (answersTo (fieldsOf input) s)) o
 
-ended : (input : List ℕ) (s : Sheet) (o : List ℕ) (q : Progress) (effects : List ℤ) {o′ : List ℕ} → 37 * length (fieldsOf input) ≤ length o →
+ended : (input : List ℕ) (s : Sheet) (o : List ℕ) (q : Progress) (effects : List ℤ) {o′ : List ℕ} → answerRoom * length (fieldsOf input) ≤ length o →
     stateOf q effects o′ ≡ steppedAll true (starting s o) (fieldsOf input) → Ended input s o q effects o′
 ended input s o q effects h e =
     let fs = fieldsOf input in
@@ -59,12 +60,12 @@ none-due true n e = absurd (omega arith)
 none-due false n e = (refl, e)
 
 -- the test by a quotient is the test by a product
-pub short-is : (room n : ℕ) → ltb (room / 37) n ≡ ltb room (37 * n)
+pub short-is : (room n : ℕ) → ltb (room / answerRoom) n ≡ ltb room (answerRoom * n)
 short-is room n =
-    ⊎-elim (λ l. lt-ltb (room / 37) n (omega arith) ∙ sym (lt-ltb room (37 * n) l))
-    (λ g. le-ltb (room / 37) n (omega arith) ∙ sym (le-ltb room (37 * n) g)) (lt-or-ge room (37 * n))
+    ⊎-elim (λ l. lt-ltb (room / answerRoom) n (omega arith) ∙ sym (lt-ltb room (answerRoom * n) l))
+    (λ g. le-ltb (room / answerRoom) n (omega arith) ∙ sym (le-ltb room (answerRoom * n) g)) (lt-or-ge room (answerRoom * n))
 
-pub roomy : (n room : ℕ) → 37 * n ≤ room → Room true 0 n room
+pub roomy : (n room : ℕ) → answerRoom * n ≤ room → Room true 0 n room
 unfolding Room
 roomy n room h = omega arith
 
@@ -74,8 +75,8 @@ pub answer-due : (state input : List ℕ) (room : ℕ) {due rest : ℕ} {t : Boo
 answer-due state input room d t r = d ∙ rw (t, r)
 
 module _ (state input o : List ℕ) where
-  pub answer-room : dueAnswer state input (length o) ≡ 0 → 37 * length (fieldsOf input) ≤ length o
-  answer-room e = ltb-false (length o) (37 * length (fieldsOf input)) (none-due (short input (length o)) (dueState state) e .0)
+  pub answer-room : dueAnswer state input (length o) ≡ 0 → answerRoom * length (fieldsOf input) ≤ length o
+  answer-room e = ltb-false (length o) (answerRoom * length (fieldsOf input)) (none-due (short input (length o)) (dueState state) e .0)
 
   pub answer-refused : {due : ℕ} → due ≡ dueAnswer state input (length o) → (due ≡ 0 → ⊥) →
       AnswerDone state input o (record { refusal = due; written = 0; saved = 0 }) o

@@ -16,8 +16,9 @@ use Rattle.wire.proofs.Cases.{eq-or-ne}
 use Rattle.wire.proofs.Stores.{sets-append}
 use Rattle.sheet.specs.Range.{InRange}
 use Rattle.sheet.specs.Parts.{whole}
-use Rattle.fields.specs.Field.{readField, answerBytes}
-use Rattle.fields.proofs.Within.{answer-fits}
+use Rattle.fields.specs.Field.{readField}
+use Rattle.answers.specs.Answers.{answerBytes, answerRoom}
+use Rattle.answers.proofs.Room.{answer-fits}
 use Rattle.frames_c.specs.declared.Progress.{Progress}
 use Rattle.lists.specs.Lists.{fieldsOf, sheetAfter, answersTo, bytesOf}
 use Rattle.lists.proofs.Left.{Left, left-all, left-none, left-next}
@@ -44,14 +45,14 @@ going-start keep input output p effects e h r = record {
   long = refl;
 }
 
-one-roomy : (keep : Bool) (to n room : ℕ) → Room keep to (suc n) room → to + 37 ≤ room
+one-roomy : (keep : Bool) (to n room : ℕ) → Room keep to (suc n) room → to + answerRoom ≤ room
 unfolding Room
-one-roomy true to n room h = let e = mul-suc 37 n in omega arith
+one-roomy true to n room h = let e = mul-suc answerRoom n in omega arith
 one-roomy false to n room h = h
 
-rest-roomy : (keep : Bool) (to to′ n k room : ℕ) → to′ ≡ advanced keep to k → k ≤ 37 → Room keep to (suc n) room → Room keep to′ n room
+rest-roomy : (keep : Bool) (to to′ n k room : ℕ) → to′ ≡ advanced keep to k → k ≤ answerRoom → Room keep to (suc n) room → Room keep to′ n room
 unfolding Room
-rest-roomy true to to′ n k room e l h = let f = mul-suc 37 n in omega arith
+rest-roomy true to to′ n k room e l h = let f = mul-suc answerRoom n in omega arith
 rest-roomy false to to′ n k room e l h = omega arith
 
 module _ {keep : Bool} {input : List ℕ} {start : State} {p : Progress} {effects : List ℤ} {output : List ℕ} (h : Going keep input start p effects output) where
@@ -70,7 +71,7 @@ module _ {keep : Bool} {input : List ℕ} {start : State} {p : Progress} {effect
       unfolding steppedAll stepped
       going-next =
           let x = left-next (h .left) g in
-          let a = readField (drop (p .consumed) input) 37 (whole (p .rest) effects) .answer in
+          let a = readField (drop (p .consumed) input) answerRoom (whole (p .rest) effects) .answer in
           record {
             fields = x .rest;
             left = rw (s .consumed) (x .later);
@@ -111,7 +112,7 @@ unfolding steppedAll stepped answersTo firstRefusal
 refusal-after keep [] p = ⊎-elim (λ e. rw e) (λ e. rw (ne-eqb (p .refusal) 0 e)) (eq-or-ne (p .refusal) 0)
 refusal-after keep (f ∷ fs) p =
     refusal-after keep fs (stepped keep p f)
-    ∙ later-refusal (p .refusal) (refusalOf (readField f 37 (p .sheet) .answer)) (firstRefusal (answersTo fs (readField f 37 (p .sheet) .sheet)))
+    ∙ later-refusal (p .refusal) (refusalOf (readField f answerRoom (p .sheet) .answer)) (firstRefusal (answersTo fs (readField f answerRoom (p .sheet) .sheet)))
 
 -- the answers one after the other
 pub written-after : (fs : List (List ℕ)) (p : State) → steppedAll true p fs .written ≡ p .written + length (bytesOf (answersTo fs (p .sheet)))
@@ -119,7 +120,7 @@ unfolding steppedAll stepped answersTo bytesOf
 written-after [] p = sym (add-zero (p .written))
 written-after (f ∷ fs) p =
     let e = written-after fs (stepped true p f) in
-    let l = length-append (answerBytes (readField f 37 (p .sheet) .answer)) (bytesOf (answersTo fs (readField f 37 (p .sheet) .sheet))) in
+    let l = length-append (answerBytes (readField f answerRoom (p .sheet) .answer)) (bytesOf (answersTo fs (readField f answerRoom (p .sheet) .sheet))) in
     omega arith
 
 pub output-after : (fs : List (List ℕ)) (p : State) → steppedAll true p fs .output ≡ sets (p .output) (p .written) (bytesOf (answersTo fs (p .sheet)))
@@ -127,4 +128,4 @@ unfolding steppedAll stepped answersTo bytesOf
 output-after [] p = refl
 output-after (f ∷ fs) p =
     output-after fs (stepped true p f)
-    ∙ sets-append (answerBytes (readField f 37 (p .sheet) .answer)) (bytesOf (answersTo fs (readField f 37 (p .sheet) .sheet))) (p .output) (p .written)
+    ∙ sets-append (answerBytes (readField f answerRoom (p .sheet) .answer)) (bytesOf (answersTo fs (readField f answerRoom (p .sheet) .sheet))) (p .output) (p .written)

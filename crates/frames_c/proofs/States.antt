@@ -19,6 +19,7 @@ use Rattle.lists.specs.Lists.{fieldsFrom, fieldsOf, sheetAfter, answersTo}
 use Rattle.lists.proofs.Left.{no-fields}
 use Rattle.lists.proofs.Joins.{kept-after}
 use Rattle.frames_c.specs.Lists.{firstRefusal, loaded, dueState, savedAfter}
+use Rattle.answers.specs.Answers.{answerRoom}
 
 -- every field of the list is accepted, and they lead to the sheet
 abbrev Accepted : List (List ℕ) → Sheet → Sheet → Type 0
@@ -32,7 +33,7 @@ read-through {s = s} (field {b} {bs} e r) (suc n) h =
     let w = b ∷ bs in
     let some = consumed-some w (omega arith) in
     let c = read-consumed w s in
-    let l : length (drop (readField w 37 s .consumed) w) ≤ n = rw (c, length-drop) (omega arith) in
+    let l : length (drop (readField w answerRoom s .consumed) w) ≤ n = rw (c, length-drop) (omega arith) in
     let x = read-through r n l in
     (rw (e, ← c) (x .0), rw (← c) (x .1))
 

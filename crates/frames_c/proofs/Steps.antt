@@ -11,7 +11,8 @@ use lib.Seq.{length-sets}
 use borrow.Rule.Slice.PartMut.{putMid}
 use Rattle.sheet.specs.Parts.{whole}
 use Rattle.fields.specs.declared.ReadRest.{ReadRest}
-use Rattle.fields.specs.Field.{readField, answerBytes}
+use Rattle.fields.specs.Field.{readField}
+use Rattle.answers.specs.Answers.{answerBytes, answerRoom}
 use Rattle.fields.specs.Readings.{FieldRead, wholeReading}
 use Rattle.fields.proofs.Kept.{read-kept}
 use Rattle.lists.proofs.Placed.{read-at}
@@ -34,6 +35,6 @@ step-is p keep effects input output h {r} f d e =
     record {
       state = rw (x .output, d, e, x .answer, x .sheet, x .written);
       consumed = rw (x .consumed);
-      in-range = rw (x .sheet) (read-kept field 37 s (h .in-range));
-      same = rw (x .output, length-sets output (p .written) (answerBytes (readField field 37 s .answer)));
+      in-range = rw (x .sheet) (read-kept field answerRoom s (h .in-range));
+      same = rw (x .output, length-sets output (p .written) (answerBytes (readField field answerRoom s .answer)));
     }

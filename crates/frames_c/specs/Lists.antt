@@ -13,6 +13,7 @@ use Rattle.sheet.specs.Sheet.{freshSheet}
 use Rattle.lists.specs.Lists.{fieldsOf, sheetAfter, answersTo, bytesOf}
 use Rattle.saving.specs.Saved.{savedBytes, savedMost}
 use Rattle.frames_c.specs.declared.Ran.{Ran}
+use Rattle.answers.specs.Answers.{answerRoom}
 
 -- 01, 'Saving': a saved sheet has fields that are accepted, and tags 06 and 07 are none of its tags
 abbrev pub refusalOf : Answer → ℕ
@@ -35,7 +36,7 @@ dueState state = firstRefusal (answersTo (fieldsOf state) freshSheet)
 
 -- 01, 'Answer fields': 14 comes first, for an output of under 37 bytes for each field
 abbrev pub short : List ℕ → ℕ → Bool
-short input room = ltb room (37 * length (fieldsOf input))
+short input room = ltb room (answerRoom * length (fieldsOf input))
 
 abbrev pub dueAnswer : List ℕ → List ℕ → ℕ → ℕ
 dueAnswer state input room = cond (short input room) 14 (dueState state)

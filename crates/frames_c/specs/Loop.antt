@@ -11,7 +11,8 @@ use Rattle.sheet.specs.declared.Sheet.{Sheet}
 use Rattle.sheet.specs.Range.{InRange}
 use Rattle.sheet.specs.Parts.{whole}
 use Rattle.headers.specs.Headers.{consumedBy}
-use Rattle.fields.specs.Field.{readField, answerBytes}
+use Rattle.fields.specs.Field.{readField}
+use Rattle.answers.specs.Answers.{answerBytes, answerRoom}
 use Rattle.saving.specs.declared.Saved.{Saved}
 use Rattle.saving.specs.declared.Saved.the-variants.{Written, Refused}
 use Rattle.frames_c.specs.declared.Progress.{Progress}
@@ -33,10 +34,10 @@ advanced keep to n = cond keep (to + n) to
 unfoldable pub stepped : Bool → State → List ℕ → State
 stepped keep p f =
     record {
-      sheet = readField f 37 (p .sheet) .sheet;
-      refusal = cond (eqb (p .refusal) 0) (refusalOf (readField f 37 (p .sheet) .answer)) (p .refusal);
-      written = advanced keep (p .written) (length (answerBytes (readField f 37 (p .sheet) .answer)));
-      output = sets (p .output) (p .written) (answerBytes (readField f 37 (p .sheet) .answer));
+      sheet = readField f answerRoom (p .sheet) .sheet;
+      refusal = cond (eqb (p .refusal) 0) (refusalOf (readField f answerRoom (p .sheet) .answer)) (p .refusal);
+      written = advanced keep (p .written) (length (answerBytes (readField f answerRoom (p .sheet) .answer)));
+      output = sets (p .output) (p .written) (answerBytes (readField f answerRoom (p .sheet) .answer));
     }
 
 unfoldable pub steppedAll : Bool → State → List (List ℕ) → State
@@ -45,8 +46,8 @@ steppedAll keep p (f ∷ fs) = steppedAll keep (stepped keep p f) fs
 
 -- room for the answers to n fields
 unfoldable pub Room : Bool → ℕ → ℕ → ℕ → Type 0
-Room true to n room = to + 37 * n ≤ room
-Room false to n room = to + 37 ≤ room
+Room true to n room = to + answerRoom * n ≤ room
+Room false to n room = to + answerRoom ≤ room
 
 -- what the loop has reached, with the effects and the output that it is lent, as its state
 abbrev pub stateOf : Progress → List ℤ → List ℕ → State
@@ -56,7 +57,7 @@ stateOf p effects output = record { sheet = whole (p .rest) effects; refusal = p
 pub record Reached (p : Progress) (effects : List ℤ) (input output : List ℕ) : Type 0 where
   pub in-range : InRange (whole (p .rest) effects)
   pub consumed : p .consumed ≤ length input
-  pub room : p .written + 37 ≤ length output
+  pub room : p .written + answerRoom ≤ length output
 
 -- after it
 pub record Stepped (p : Progress) (keep : Bool) (effects : List ℤ) (input output : List ℕ) (r : Progress) (effects′ : List ℤ) (output′ : List ℕ) : Type 0 where

@@ -1,4 +1,7 @@
 // For programs in C and Rust: lists of fields, answered on a sheet that is given as its saved bytes. No call keeps a state.
+use answers::ANSWER_ROOM;
+use effects::EFFECTS;
+use effects::Effects;
 use saving::Saved;
 use sheet::Answer;
 use sheet::Rest;
@@ -6,7 +9,7 @@ ghost use mathlib.Core.Path.{_≡_};
 ghost use mathlib.Core.Bool.{true, false};
 ghost use Prim.Native.Nat.{_+_, _<_};
 ghost use lib.ListN.{length};
-ghost use Rattle.effects.specs.Effects.{zeros};
+ghost use Rattle.effects.specs.Effects.{zeros, effectCount};
 ghost use Rattle.sheet.specs.Parts.{whole};
 ghost use Rattle.sheet.specs.Range.{InRange};
 ghost use Rattle.lists.specs.Lists.{fieldsOf};
@@ -63,13 +66,7 @@ pub extern "C" fn frames_count(input: &[u8]) -> usize
 }
 
 // One field more. Its answer is written after those before it, or over the one before it.
-fn step(
-    p: Progress,
-    keep: bool,
-    effects: &mut [i16; 1536],
-    input: &[u8],
-    output: &mut [u8],
-) -> Progress
+fn step(p: Progress, keep: bool, effects: &mut Effects, input: &[u8], output: &mut [u8]) -> Progress
     requires { ⌜ Reached p (now effects) (now input) (now output) ⌝ }
     ensures { λ r. ⌜ Stepped p keep (now (effects .entry)) (now (input .entry)) (now (output .entry)) r (now (effects .exit)) (now (output .exit)) ⌝ }
 {
@@ -91,7 +88,7 @@ fn step(
 fn read_all(
     rest: Rest,
     keep: bool,
-    effects: &mut [i16; 1536],
+    effects: &mut Effects,
     input: &[u8],
     output: &mut [u8],
 ) -> Progress
@@ -112,11 +109,11 @@ fn read_all(
 }
 
 // The sheet that a state gives, on the effects of a fresh one, and its refusal. The answers to its fields are not kept.
-fn load(effects: &mut [i16; 1536], state: &[u8]) -> Progress
-    requires { ⌜ now effects ≡ zeros 1536 ⌝ }
+fn load(effects: &mut Effects, state: &[u8]) -> Progress
+    requires { ⌜ now effects ≡ zeros effectCount ⌝ }
     ensures { λ r. ⌜ (whole (r .rest) (now (effects .exit)) ≡ loaded (now (state .entry))) × (r .refusal ≡ dueState (now (state .entry))) × InRange (whole (r .rest) (now (effects .exit))) ⌝ }
 {
-    let mut answer = [0u8; 37];
+    let mut answer = [0u8; ANSWER_ROOM];
     let rest = Rest::fresh(standard::fresh_settings());
     read_all(rest, false, effects, state, &mut answer)
 }
@@ -126,7 +123,7 @@ fn is_short(input: &[u8], room: usize) -> bool
     ensures { λ r. ⌜ r ≡ short (now (input .entry)) room ⌝ }
 {
     let n = frames_count(input);
-    room / 37 < n
+    room / ANSWER_ROOM < n
 }
 
 fn saved_count(s: Saved) -> usize
@@ -143,7 +140,7 @@ fn saved_count(s: Saved) -> usize
 pub extern "C" fn frames_answer(state: &[u8], input: &[u8], output: &mut [u8]) -> Ran
     ensures { λ r. ⌜ AnswerDone (now (state .entry)) (now (input .entry)) (now (output .entry)) r (now (output .exit)) ⌝ }
 {
-    let mut effects = [0i16; 1536];
+    let mut effects = [0i16; EFFECTS];
     let p = load(&mut effects, state);
     let short = is_short(input, output.len());
     let due = refusals::first(short, 14, p.refusal);
@@ -168,7 +165,7 @@ pub extern "C" fn frames_answer(state: &[u8], input: &[u8], output: &mut [u8]) -
 pub extern "C" fn frames_run(state: &[u8], input: &[u8], output: &mut [u8], saved: &mut [u8]) -> Ran
     ensures { λ r. ⌜ RunDone (now (state .entry)) (now (input .entry)) (now (output .entry)) (now (saved .entry)) r (now (output .exit)) (now (saved .exit)) ⌝ }
 {
-    let mut effects = [0i16; 1536];
+    let mut effects = [0i16; EFFECTS];
     let p = load(&mut effects, state);
     let short = is_short(input, output.len());
     let due = refusals::first(short, 14, p.refusal);

@@ -11,10 +11,11 @@ use Rattle.wire.specs.Bytes.{over}
 use Rattle.sheet.specs.declared.Sheet.{Sheet}
 use Rattle.fields.specs.declared.Reading.{Reading}
 use Rattle.headers.specs.Headers.{consumedBy}
-use Rattle.fields.specs.Field.{readField, answerBytes}
+use Rattle.fields.specs.Field.{readField}
+use Rattle.answers.specs.Answers.{answerBytes, answerRoom}
 use Rattle.fields.specs.Readings.{FieldRead}
 use Rattle.fields.proofs.Consumed.{same-with-room, read-consumed, read-written}
-use Rattle.fields.proofs.Within.{answer-fits}
+use Rattle.answers.proofs.Room.{answer-fits}
 
 -- a part of a slice that goes to its end
 pub part-from : (w : List ℕ) (i : ℕ) → take (length w - i) (drop i w) ≡ drop i w
@@ -34,27 +35,27 @@ put-part o w i h =
 
 -- the reading r of a field f on a sheet s, and the output with its answer at place `to`
 pub record ReadAt (f : List ℕ) (s : Sheet) (to : ℕ) (o : List ℕ) (r : Reading) (o′ : List ℕ) : Type 0 where
-  pub answer : r .answer ≡ readField f 37 s .answer
-  pub sheet : r .sheet ≡ readField f 37 s .sheet
+  pub answer : r .answer ≡ readField f answerRoom s .answer
+  pub sheet : r .sheet ≡ readField f answerRoom s .sheet
   pub consumed : r .consumed ≡ consumedBy f
-  pub written : r .written ≡ length (answerBytes (readField f 37 s .answer))
-  pub output : o′ ≡ sets o to (answerBytes (readField f 37 s .answer))
+  pub written : r .written ≡ length (answerBytes (readField f answerRoom s .answer))
+  pub output : o′ ≡ sets o to (answerBytes (readField f answerRoom s .answer))
 
-pub read-at : (input output : List ℕ) (at to : ℕ) (s : Sheet) {r : Reading} {part : List ℕ} → to + 37 ≤ length output →
+pub read-at : (input output : List ℕ) (at to : ℕ) (s : Sheet) {r : Reading} {part : List ℕ} → to + answerRoom ≤ length output →
     FieldRead (take (length input - at) (drop at input)) (take (length output - to) (drop to output)) s r part →
     ReadAt (drop at input) s to output r (putMid to (length output - to) output part)
 read-at input output at to s {r} h f =
     let field = drop at input in
     let place = take (length output - to) (drop to output) in
-    let g : 37 ≤ length place = rw (part-from output to, length-drop) (omega arith) in
-    let e : r ≡ readField field 37 s =
+    let g : answerRoom ≤ length place = rw (part-from output to, length-drop) (omega arith) in
+    let e : r ≡ readField field answerRoom s =
     f .reading ∙ (ap (λ (w : List ℕ). readField w (length place) s) (part-from input at) ∙ same-with-room field s (length place) g) in
-    let a : r .answer ≡ readField field 37 s .answer = ap (λ (x : Reading). x .answer) e in
-    let l = answer-fits (readField field 37 s .answer) in
+    let a : r .answer ≡ readField field answerRoom s .answer = ap (λ (x : Reading). x .answer) e in
+    let l = answer-fits (readField field answerRoom s .answer) in
     record {
       answer = a;
       sheet = ap (λ (x : Reading). x .sheet) e;
       consumed = ap (λ (x : Reading). x .consumed) e ∙ read-consumed field s;
       written = ap (λ (x : Reading). x .written) e ∙ read-written field s;
-      output = rw (f .output, a) (put-part output (answerBytes (readField field 37 s .answer)) to (omega arith));
+      output = rw (f .output, a) (put-part output (answerBytes (readField field answerRoom s .answer)) to (omega arith));
     }

@@ -1,17 +1,17 @@
 -- Bytes that are put one run after the other: the invariant of the loops that put them, a turn, and two runs in a row.
 -- Assumes nothing.
 use Prim.Native.Nat.{ℕ, suc, _+_, _*_, _≤_, _<_}
-use mathlib.Core.Path.{_≡_, refl, sym, ap, _∙_}
+use mathlib.Core.Path.{_≡_, refl, _∙_}
 use mathlib.Core.List.{List, [], _++_}
 use mathlib.Core.Bool.{Bool, cond, _&&_}
 use native.Mathlib.Numerals.{add-one}
-use native.Mathlib.Nat.{zero-add, add-zero, suc-mul, mul-le-mul-right}
+use native.Mathlib.Nat.{suc-mul, mul-le-mul-right}
 use native.Mathlib.Omega.{arith}
 use borrow.Author.Tests.{ne-eqb}
 use lib.Dec.{eqb}
 use lib.IntN.{ℤ}
-use lib.ListN.{length, getD, take, drop, length-append}
-use lib.Seq.{sets, sets-eq, length-sets, take-append-seam}
+use lib.ListN.{length, take, drop}
+use lib.Seq.{sets, take-append-seam}
 use mir.Syntax.{w16}
 use mir.Val.{SFits}
 use mir.ValLaws.{toZ-ofZ}

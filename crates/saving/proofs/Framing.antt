@@ -14,10 +14,11 @@ use Rattle.sheet.specs.declared.Answer.the-variants.{Accepted}
 use Rattle.sheet.specs.declared.Answered.{Answered}
 use Rattle.headers.specs.declared.Header.the-variants.{Field}
 use Rattle.fields.specs.declared.Reading.{Reading}
-use Rattle.headers.specs.Headers.{headerOf}
+use Rattle.headers.specs.Headers.{longestBody, headerOf}
 use Rattle.fields.specs.Field.{fieldOf, readHeader, readField, reading}
 use Rattle.fields.specs.Readings.{ReadThrough, field}
 use Rattle.saving.specs.Saved.{upTo}
+use Rattle.answers.specs.Answers.{answerRoom}
 
 -- whatever follows, these bytes lead from s to s′
 abbrev pub Takes : List ℕ → Sheet → Sheet → Type 0
@@ -35,14 +36,14 @@ module _ (tag : ℕ) (body rest : List ℕ) where
   whole-header h =
       let a : 3 ≤ length bytes = omega arith in
       let w : wordAt bytes 1 ≡ length body = omega arith in
-      let b : length body ≤ 60000 = omega arith in
+      let b : length body ≤ longestBody = omega arith in
       let l : length (body ++ rest) ≡ length body + length rest = length-append body rest in
       let c : length body ≤ length bytes - 3 = omega arith in
-      rw (le-ltb (length bytes) 3 a, w, le-ltb 60000 (length body) b, le-ltb (length bytes - 3) (length body) c)
+      rw (le-ltb (length bytes) 3 a, w, le-ltb longestBody (length body) b, le-ltb (length bytes - 3) (length body) c)
 
-  pub front-read : (room : ℕ) (s : Sheet) {a : Answered} → 37 ≤ room → length body < 256 → fieldOf s tag body ≡ a → readField bytes room s ≡ reading (3 + length body) a
+  pub front-read : (room : ℕ) (s : Sheet) {a : Answered} → answerRoom ≤ room → length body < 256 → fieldOf s tag body ≡ a → readField bytes room s ≡ reading (3 + length body) a
   unfolding readField readHeader
-  front-read room s g h e = rw (le-ltb room 37 g, whole-header h, take-append-seam body rest, e)
+  front-read room s g h e = rw (le-ltb room answerRoom g, whole-header h, take-append-seam body rest, e)
 
   rest-left : drop (3 + length body) bytes ≡ rest
   rest-left =
@@ -51,8 +52,8 @@ module _ (tag : ℕ) (body rest : List ℕ) where
 
 pub takes-field : (tag : ℕ) (body : List ℕ) (s s′ : Sheet) → length body < 256 → fieldOf s tag body ≡ accepted s′ → Takes (tag ∷ 0 ∷ length body ∷ body) s s′
 takes-field tag body s s′ h e rest s″ r =
-    let g : 37 ≤ 37 = omega arith in
-    let p = front-read tag body rest 37 s g h e in
+    let g : answerRoom ≤ answerRoom = omega arith in
+    let p = front-read tag body rest answerRoom s g h e in
     field {b = tag} {bs = 0 ∷ length body ∷ (body ++ rest)} {s = s} {s′ = s″} (ap (λ (x : Reading). x .answer) p) (rw (p, rest-left tag body rest) r)
 
 -- from any sheet that has the first property, these bytes lead to one that has the second

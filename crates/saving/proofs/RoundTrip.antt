@@ -18,11 +18,11 @@ use Rattle.sheet.specs.Range.{InRange, AllOrNone}
 use Rattle.refusals.proofs.Fits.{CapacitiesFit, inside, fill-allowed, effects-allowed, capacities-allowed}
 use Rattle.sheet.proofs.Kept.{fresh-in-range}
 use Rattle.fields.proofs.Kept.{read-kept}
-use Rattle.fields.specs.Field.{readField}
 use Rattle.fields.specs.Readings.{ReadThrough, end, field}
 use Rattle.saving.specs.Saved.{upTo, words, settingsField, fillField, effectsField, capacitiesField, allZero, stationBytes, caseBytes, capacityBytes, savedBy, savedBytes}
 use Rattle.saving.proofs.Framing.{Leads, leads-field, leads-then, leads-unless, leads-upTo}
 use Rattle.saving.proofs.Stages.{Partly, settings-edit, fill-edit, effects-edit, capacities-edit, effect-back, effect-within, of-three, not-below, is-below, none-there, all-there, nothing-more, kind-there, effects-there, capacities-there}
+use Rattle.answers.specs.Answers.{answerRoom}
 
 both : (a b : Bool) → (a && b) ≡ true → (a ≡ true) × (b ≡ true)
 both true b e = (refl, e)
@@ -180,7 +180,7 @@ in-range-made {s} h = (savedBytes s, round-trip s freshSheet h)
 -- every field keeps the range
 pub read-through-kept : {w : List ℕ} {s s′ : Sheet} → ReadThrough w s s′ → InRange s → InRange s′
 read-through-kept end h = h
-read-through-kept (field e r) h = read-through-kept r (read-kept _ 37 _ h)
+read-through-kept (field e r) h = read-through-kept r (read-kept _ answerRoom _ h)
 
 -- with in-range-made: a sheet is in range exactly when fields make it from a fresh one
 pub made-in-range : {s : Sheet} → (w : List ℕ) × ReadThrough w freshSheet s → InRange s

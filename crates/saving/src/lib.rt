@@ -1,4 +1,5 @@
 // Writes a sheet as the fields that make it.
+use effects::Effects;
 use sheet::Rest;
 use sheet::Sheet;
 ghost use mathlib.Core.Path.{_≡_};
@@ -21,7 +22,7 @@ pub enum Saved {
 }
 
 // The effect of a case at a station on component j.
-fn effect_in(effects: &[i16; 1536], case: usize, station: usize, j: usize) -> i16
+fn effect_in(effects: &Effects, case: usize, station: usize, j: usize) -> i16
     requires { ⌜ (case < 32) × (station < 16) × (j < 3) ⌝ }
     ensures { λ r. ⌜ r ≡ effectIn (now (effects .entry)) case station j ⌝ }
 {
@@ -57,13 +58,7 @@ fn put_words(out: &mut [u8], at: usize, n: u16, y: u16, z: u16) -> usize
     wire::put_at(out, at, &b)
 }
 
-fn put_effects(
-    effects: &[i16; 1536],
-    out: &mut [u8],
-    at: usize,
-    case: usize,
-    station: usize,
-) -> usize
+fn put_effects(effects: &Effects, out: &mut [u8], at: usize, case: usize, station: usize) -> usize
     requires { ⌜ (case < 32) × (station < 16) × (at + stationMost ≤ length (now out)) ⌝ }
     ensures { λ r. ⌜ Put (now (out .entry)) at (stationBytes (effectIn (now (effects .entry))) case station) r (now (out .exit)) ⌝ }
 {
@@ -78,7 +73,7 @@ fn put_effects(
     put_words(out, to, wire::bits(n), wire::bits(y), wire::bits(z))
 }
 
-fn put_stations(effects: &[i16; 1536], out: &mut [u8], at: usize, case: usize) -> usize
+fn put_stations(effects: &Effects, out: &mut [u8], at: usize, case: usize) -> usize
     requires { ⌜ (case < 32) × (at + 16 * stationMost ≤ length (now out)) ⌝ }
     ensures { λ r. ⌜ Put (now (out .entry)) at (upTo (stationBytes (effectIn (now (effects .entry))) case) 16) r (now (out .exit)) ⌝ }
 {
@@ -91,13 +86,7 @@ fn put_stations(effects: &[i16; 1536], out: &mut [u8], at: usize, case: usize) -
     to
 }
 
-fn put_case(
-    kinds: &[u8; 32],
-    effects: &[i16; 1536],
-    out: &mut [u8],
-    at: usize,
-    case: usize,
-) -> usize
+fn put_case(kinds: &[u8; 32], effects: &Effects, out: &mut [u8], at: usize, case: usize) -> usize
     requires { ⌜ (case < 32) × (at + caseMost ≤ length (now out)) ⌝ }
     ensures { λ r. ⌜ Put (now (out .entry)) at (caseBytes (λ k. getD (now (kinds .entry)) k 0) (effectIn (now (effects .entry))) case) r (now (out .exit)) ⌝ }
 {
@@ -110,7 +99,7 @@ fn put_case(
     put_stations(effects, out, to, case)
 }
 
-fn put_cases(kinds: &[u8; 32], effects: &[i16; 1536], out: &mut [u8], at: usize) -> usize
+fn put_cases(kinds: &[u8; 32], effects: &Effects, out: &mut [u8], at: usize) -> usize
     requires { ⌜ at + 32 * caseMost ≤ length (now out) ⌝ }
     ensures { λ r. ⌜ Put (now (out .entry)) at (upTo (caseBytes (λ k. getD (now (kinds .entry)) k 0) (effectIn (now (effects .entry)))) 32) r (now (out .exit)) ⌝ }
 {
@@ -151,7 +140,7 @@ fn put_capacities(capacities: &[u16; 48], out: &mut [u8], at: usize) -> usize
     to
 }
 
-fn put_all(rest: Rest, effects: &[i16; 1536], out: &mut [u8]) -> usize
+fn put_all(rest: Rest, effects: &Effects, out: &mut [u8]) -> usize
     requires { ⌜ savedMost ≤ length (now out) ⌝ }
     ensures { λ r. ⌜ Put (now (out .entry)) 0 (savedBytes (whole rest (now (effects .entry)))) r (now (out .exit)) ⌝ }
 {
@@ -165,7 +154,7 @@ fn put_all(rest: Rest, effects: &[i16; 1536], out: &mut [u8]) -> usize
 }
 
 // Saves a sheet over the front of the output, or refuses with 14 and writes nothing. The effects are lent.
-pub fn save_in(rest: Rest, effects: &[i16; 1536], out: &mut [u8]) -> Saved
+pub fn save_in(rest: Rest, effects: &Effects, out: &mut [u8]) -> Saved
     ensures { λ r. ⌜ (r ≡ savedAnswer (whole rest (now (effects .entry))) (length (now (out .entry)))) × (now (out .exit) ≡ savedOver (whole rest (now (effects .entry))) (now (out .entry))) ⌝ }
 {
     let mut buffer = [0u8; SAVED_MOST];

@@ -8,7 +8,8 @@ use native.Mathlib.Omega.{arith}
 use borrow.Author.Tests.{lt-ltb, le-leb}
 use lib.ListN.{length}
 use Rattle.sheet.specs.declared.Sheet.{Sheet}
-use Rattle.fields.specs.Field.{readField, lastOf}
+use Rattle.fields.specs.Field.{readField}
+use Rattle.answers.specs.Answers.{lastOf, answerRoom}
 use Rattle.headers.specs.Headers.{readyOf}
 use Rattle.lists.specs.Lists.{fieldsFrom, fieldsOf}
 use Rattle.fields.proofs.Ready.{cut-all}
@@ -19,16 +20,16 @@ none-after : (t : Bool) → _≡_ {A = List (List ℕ)} (cond t [] []) []
 none-after true = refl
 none-after false = refl
 
-next-at-end : (room : ℕ) (w : List ℕ) → 0 < length w → 37 ≤ room → isNext true room w ≡ true
+next-at-end : (room : ℕ) (w : List ℕ) → 0 < length w → answerRoom ≤ room → isNext true room w ≡ true
 unfolding isNext
-next-at-end room w g h = rw (lt-ltb 0 (length w) g, le-leb 37 room h)
+next-at-end room w g h = rw (lt-ltb 0 (length w) g, le-leb answerRoom room h)
 
-one-answered : (w : List ℕ) (room : ℕ) (s : Sheet) → 0 < length w → 37 ≤ room → answeredOf true room (w ∷ []) s ≡ w ∷ []
+one-answered : (w : List ℕ) (room : ℕ) (s : Sheet) → 0 < length w → answerRoom ≤ room → answeredOf true room (w ∷ []) s ≡ w ∷ []
 unfolding answeredOf
 one-answered w room s g h =
-    rw (next-at-end room w g h) (ap (λ (fs : List (List ℕ)). w ∷ fs) (none-after (lastOf (readField w 37 s .answer))))
+    rw (next-at-end room w g h) (ap (λ (fs : List (List ℕ)). w ∷ fs) (none-after (lastOf (readField w answerRoom s .answer))))
 
-pub end-fields : (w : List ℕ) (room : ℕ) (s : Sheet) → readyOf w ≡ false → 37 ≤ room → answeredOf true room (fieldsOf w) s ≡ fieldsOf w
+pub end-fields : (w : List ℕ) (room : ℕ) (s : Sheet) → readyOf w ≡ false → answerRoom ≤ room → answeredOf true room (fieldsOf w) s ≡ fieldsOf w
 unfolding answeredOf fieldsFrom
 end-fields [] room s e h = refl
 end-fields (b ∷ bs) room s e h =

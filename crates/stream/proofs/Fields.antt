@@ -15,7 +15,8 @@ use Rattle.wire.proofs.Stores.{sets-append}
 use Rattle.sheet.specs.declared.Answer.{Answer}
 use Rattle.sheet.specs.Parts.{whole}
 use Rattle.fields.specs.declared.ReadRest.{ReadRest}
-use Rattle.fields.specs.Field.{readField, answerBytes, lastOf}
+use Rattle.fields.specs.Field.{readField}
+use Rattle.answers.specs.Answers.{answerBytes, lastOf, answerRoom}
 use Rattle.headers.specs.Headers.{readyOf}
 use Rattle.fields.specs.Readings.{FieldRead, wholeReading}
 use Rattle.lists.specs.Lists.{spanOf, sheetAfter, answersTo, bytesOf}
@@ -42,12 +43,12 @@ last-join [] ys = refl
 last-join (a ∷ xs) ys = ap (λ (t : Bool). lastOf a || t) (last-join xs ys) ∙ sym (or-assoc (lastOf a) (anyLast xs) (anyLast ys))
 
 -- a field that is answered now has bytes, and its answer has room
-pub next-parts : (ended : Bool) (room : ℕ) (f : List ℕ) → isNext ended room f ≡ true → (0 < length f) × (37 ≤ room)
+pub next-parts : (ended : Bool) (room : ℕ) (f : List ℕ) → isNext ended room f ≡ true → (0 < length f) × (answerRoom ≤ room)
 unfolding isNext
 next-parts ended room f e =
-    let x = and-parts (ltb 0 (length f) && (ended || readyOf f)) (leb 37 room) e in
+    let x = and-parts (ltb 0 (length f) && (ended || readyOf f)) (leb answerRoom room) e in
     let y = and-parts (ltb 0 (length f)) (ended || readyOf f) (x .0) in
-    (ltb-true 0 (length f) (y .0), leb-true 37 room (x .1))
+    (ltb-true 0 (length f) (y .0), leb-true answerRoom room (x .1))
 
 pub progressed-none : (p : Progress) (effects : List ℤ) (o : List ℕ) (more : Bool) →
     Progressed [] p effects o (record { rest = p .rest; consumed = p .consumed; written = p .written; more = more; stop = p .stop }) effects o
@@ -85,18 +86,18 @@ module _ (p : Progress) (effects : List ℤ) (input o : List ℕ) where
   abbrev pub following : List ℕ
   following = drop (p .consumed) input
 
-  pub progressed-one : p .written + 37 ≤ length o → {r : ReadRest} {effects′ : List ℤ} {part : List ℕ} {last : Bool} →
+  pub progressed-one : p .written + answerRoom ≤ length o → {r : ReadRest} {effects′ : List ℤ} {part : List ℕ} {last : Bool} →
       FieldRead (take (length input - p .consumed) following) (take (length o - p .written) (drop (p .written) o)) (whole (p .rest) effects)
       (wholeReading r effects′) part → last ≡ lastOf (r .answer) →
       Progressed (following ∷ []) p effects o
       (record { rest = r .rest; consumed = p .consumed + r .consumed; written = p .written + r .written; more = not last; stop = p .stop || last })
       effects′ (putMid (p .written) (length o - p .written) o part)
-      × (not last ≡ not (lastOf (readField following 37 (whole (p .rest) effects) .answer)))
+      × (not last ≡ not (lastOf (readField following answerRoom (whole (p .rest) effects) .answer)))
   unfolding sheetAfter spanOf answersTo bytesOf anyLast
   progressed-one h f l =
       let s = whole (p .rest) effects in
       let x = read-at input o (p .consumed) (p .written) s h f in
-      let b = append-nil (answerBytes (readField following 37 s .answer)) in
+      let b = append-nil (answerBytes (readField following answerRoom s .answer)) in
       let e = l ∙ ap lastOf (x .answer) in (
         record {
           sheet = x .sheet;
@@ -112,13 +113,13 @@ module _ (p : Progress) (effects : List ℤ) (input o : List ℕ) where
     now-is : t ≡ isNext ended (length o - p .written) following
     now-is = n ∙ ap (isNext ended (length o - p .written)) (part-from input (p .consumed))
 
-    pub next-room : p .written ≤ length o → t ≡ true → p .written + 37 ≤ length o
+    pub next-room : p .written ≤ length o → t ≡ true → p .written + answerRoom ≤ length o
     next-room h e =
         let x = next-parts ended (length o - p .written) following (sym now-is ∙ e) in
         omega (arith, x .1)
 
     pub step-taken : t ≡ true → {r : Progress} {effects′ : List ℤ} {o′ : List ℕ} →
-        Progressed (following ∷ []) p effects o r effects′ o′ × (r .more ≡ not (lastOf (readField following 37 (whole (p .rest) effects) .answer))) →
+        Progressed (following ∷ []) p effects o r effects′ o′ × (r .more ≡ not (lastOf (readField following answerRoom (whole (p .rest) effects) .answer))) →
         Stepped ended p effects input o r effects′ o′
     unfolding goesOn
     step-taken e x =

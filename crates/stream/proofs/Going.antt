@@ -14,7 +14,8 @@ use Rattle.sheet.specs.declared.Sheet.{Sheet}
 use Rattle.sheet.specs.Range.{InRange}
 use Rattle.sheet.specs.Parts.{whole}
 use Rattle.headers.specs.Headers.{consumedBy}
-use Rattle.fields.specs.Field.{readField, answerBytes, lastOf}
+use Rattle.fields.specs.Field.{readField}
+use Rattle.answers.specs.Answers.{answerBytes, lastOf, answerRoom}
 use Rattle.lists.specs.Lists.{fieldsOf, spanOf, sheetAfter, answersTo, bytesOf}
 use Rattle.lists.proofs.Left.{Left, Next, left-all, left-none, left-next}
 use Rattle.lists.proofs.Joins.{kept-after, answers-long}
@@ -57,9 +58,9 @@ module _ {ended : Bool} {input : List ℕ} {p₀ : Progress} {effects₀ : List 
   sheet = whole (p .rest) effects
 
   abbrev answer : Bool
-  answer = lastOf (readField f 37 sheet .answer)
+  answer = lastOf (readField f answerRoom sheet .answer)
 
-  within-next : (gs : List (List ℕ)) → Progressed gs p effects o r effects′ o′ → r .consumed ≤ length input → 37 * length gs ≤ room →
+  within-next : (gs : List (List ℕ)) → Progressed gs p effects o r effects′ o′ → r .consumed ≤ length input → answerRoom * length gs ≤ room →
       Within (whole (r .rest) effects′) (r .consumed) (r .written) input o₀ o′
   within-next gs a c l =
       let w = h .within in
@@ -93,9 +94,9 @@ module _ {ended : Bool} {input : List ℕ} {p₀ : Progress} {effects₀ : List 
         let a = taken in
         let c : r .consumed ≡ p .consumed + consumedBy f = omega (arith, a .consumed) in
         let l : Left input (r .consumed) (x .rest) = rw c (x .later) in
-        let b = append-nil (answerBytes (readField f 37 sheet .answer)) in
-        let w : r .written ≡ p .written + length (answerBytes (readField f 37 sheet .answer)) = rw b at (a .written) in
-        let v : length o₀ - r .written ≡ room - length (answerBytes (readField f 37 sheet .answer)) = omega arith in
+        let b = append-nil (answerBytes (readField f answerRoom sheet .answer)) in
+        let w : r .written ≡ p .written + length (answerBytes (readField f answerRoom sheet .answer)) = rw b at (a .written) in
+        let v : length o₀ - r .written ≡ room - length (answerBytes (readField f answerRoom sheet .answer)) = omega arith in
         let g = next-parts ended room f t .1 in
         record {
           done = h .done ++ (f ∷ []);
@@ -103,7 +104,7 @@ module _ {ended : Bool} {input : List ℕ} {p₀ : Progress} {effects₀ : List 
           answered = progressed-join (h .done) (f ∷ []) (h .answered) a;
           left = l;
           all = (rw (m, x .split, t) at (h .all))
-              ∙ rw (more-is, v, a .sheet) (one-more (h .done) (answeredOf ended (room - length (answerBytes (readField f 37 sheet .answer))) (x .rest) (readField f 37 sheet .sheet)) f answer);
+              ∙ rw (more-is, v, a .sheet) (one-more (h .done) (answeredOf ended (room - length (answerBytes (readField f answerRoom sheet .answer))) (x .rest) (readField f answerRoom sheet .sheet)) f answer);
           within = within-next (f ∷ []) a (l .within) (omega arith);
         }
 
@@ -153,7 +154,7 @@ module _ {ended : Bool} {input : List ℕ} {p₀ : Progress} {effects₀ : List 
   going-fewer = rw m (⊎-elim (λ t. fewer-yes t) (λ t. fewer-no t) (either (isNext ended room f)))
 
 pub going-start : (ended : Bool) (input : List ℕ) (p : Progress) (effects : List ℤ) (o : List ℕ) → p .consumed ≡ 0 → p .written ≡ 0 → p .more ≡ true →
-    InRange (whole (p .rest) effects) → 37 ≤ length o → Going ended input p effects o p effects o
+    InRange (whole (p .rest) effects) → answerRoom ≤ length o → Going ended input p effects o p effects o
 going-start ended input p effects o c w m h g = record {
   done = [];
   next = fieldsOf input;

@@ -12,7 +12,8 @@ use lib.Seq.{drop-drop, drop-append-le}
 use Rattle.sheet.specs.declared.Sheet.{Sheet}
 use Rattle.sheet.specs.declared.Answer.{Answer}
 use Rattle.headers.specs.Headers.{consumedBy, readyOf}
-use Rattle.fields.specs.Field.{readField, answerBytes, lastOf}
+use Rattle.fields.specs.Field.{readField}
+use Rattle.answers.specs.Answers.{answerBytes, lastOf, answerRoom}
 use Rattle.fields.proofs.Consumed.{read-consumed}
 use Rattle.headers.proofs.Whole.{consumed-within}
 use Rattle.fields.proofs.Ready.{SameReading, ready-same}
@@ -27,11 +28,11 @@ pub record Alike (s : Sheet) (fs gs : List (List ℕ)) : Type 0 where
   pub answers : answersTo fs s ≡ answersTo gs s
   pub sheet : sheetAfter fs s ≡ sheetAfter gs s
 
-alike-first : (f f′ : List ℕ) (fs gs : List (List ℕ)) (s : Sheet) → SameReading (readField f 37 s) (readField f′ 37 s) →
-    Alike (readField f 37 s .sheet) fs gs → Alike s (f′ ∷ fs) (f ∷ gs)
+alike-first : (f f′ : List ℕ) (fs gs : List (List ℕ)) (s : Sheet) → SameReading (readField f answerRoom s) (readField f′ answerRoom s) →
+    Alike (readField f answerRoom s .sheet) fs gs → Alike s (f′ ∷ fs) (f ∷ gs)
 unfolding answersTo sheetAfter
 alike-first f f′ fs gs s y x = record {
-  answers = rw (y .answer, y .sheet) (ap (λ (as₁ : List Answer). readField f 37 s .answer ∷ as₁) (x .answers));
+  answers = rw (y .answer, y .sheet) (ap (λ (as₁ : List Answer). readField f answerRoom s .answer ∷ as₁) (x .answers));
   sheet = rw (y .sheet) (x .sheet);
 }
 
@@ -53,25 +54,25 @@ module _ (t w : List ℕ) (s : Sheet) (fs : List (List ℕ)) (g : 0 < length w) 
   some : 0 < length (w ++ t)
   some = let n = length-append w t in omega arith
 
-  split-last : readyOf w ≡ true → lastOf (readField w 37 s .answer) ≡ true → Split t w s (w ∷ [])
+  split-last : readyOf w ≡ true → lastOf (readField w answerRoom s .answer) ≡ true → Split t w s (w ∷ [])
   unfolding answersTo anyLast
   split-last r l =
       let e : fieldsOf (w ++ t) ≡ (w ++ t) ∷ [] = only-field (w ++ t) some (last-all w t s r l) in
-      rw (e, l) (alike-first w (w ++ t) [] [] s (ready-same w t 37 s r) (record { answers = refl; sheet = refl }))
+      rw (e, l) (alike-first w (w ++ t) [] [] s (ready-same w t answerRoom s r) (record { answers = refl; sheet = refl }))
 
-  split-one : readyOf w ≡ true → lastOf (readField w 37 s .answer) ≡ false → Split t after (readField w 37 s .sheet) fs → Split t w s (w ∷ fs)
+  split-one : readyOf w ≡ true → lastOf (readField w answerRoom s .answer) ≡ false → Split t after (readField w answerRoom s .sheet) fs → Split t w s (w ∷ fs)
   unfolding answersTo spanOf anyLast
   split-one r l x =
-      let y = ready-same w t 37 s r in
+      let y = ready-same w t answerRoom s r in
       let c : consumedBy (w ++ t) ≡ consumedBy w = sym (read-consumed (w ++ t) s) ∙ (y .consumed l ∙ read-consumed w s) in
       let k : drop (consumedBy (w ++ t)) (w ++ t) ≡ after ++ t =
       ap (λ (i : ℕ). drop i (w ++ t)) c ∙ drop-append-le (consumedBy w) w t (consumed-within w) in
       let e : fieldsOf (w ++ t) ≡ (w ++ t) ∷ fieldsOf (after ++ t) =
       first-field (w ++ t) some ∙ ap (λ (z : List ℕ). (w ++ t) ∷ fieldsOf z) k in
       let d : drop (spanOf fs) after ≡ drop (consumedBy w + spanOf fs) w = drop-drop (spanOf fs) (consumedBy w) w in
-      rw (e, l, ← d) (alike-first w (w ++ t) (fieldsOf (after ++ t)) (fs ++ leftOf t after (readField w 37 s .sheet) fs) s y x)
+      rw (e, l, ← d) (alike-first w (w ++ t) (fieldsOf (after ++ t)) (fs ++ leftOf t after (readField w answerRoom s .sheet) fs) s y x)
 
-  by-tests : (i k : Bool) → (i ≡ true → readyOf w ≡ true) → k ≡ lastOf (readField w 37 s .answer) → Split t after (readField w 37 s .sheet) fs →
+  by-tests : (i k : Bool) → (i ≡ true → readyOf w ≡ true) → k ≡ lastOf (readField w answerRoom s .answer) → Split t after (readField w answerRoom s .sheet) fs →
       Split t w s (cond i (w ∷ cond k [] fs) [])
   by-tests false k r e x = split-none t w s
   by-tests true true r e x = split-last (r refl) (sym e)
@@ -79,7 +80,7 @@ module _ (t w : List ℕ) (s : Sheet) (fs : List (List ℕ)) (g : 0 < length w) 
 
 is-ready : (room : ℕ) (w : List ℕ) → isNext false room w ≡ true → readyOf w ≡ true
 unfolding isNext
-is-ready room w e = and-parts (ltb 0 (length w)) (readyOf w) (and-parts (ltb 0 (length w) && readyOf w) (leb 37 room) e .0) .1
+is-ready room w e = and-parts (ltb 0 (length w)) (readyOf w) (and-parts (ltb 0 (length w) && readyOf w) (leb answerRoom room) e .0) .1
 
 -- what is answered before the end of input
 pub split-now : (t : List ℕ) (n room : ℕ) (w : List ℕ) (s : Sheet) → Split t w s (answeredOf false room (fieldsFrom n w) s)
@@ -88,7 +89,7 @@ split-now t zero room w s = split-none t w s
 split-now t (suc n) room [] s = split-none t [] s
 split-now t (suc n) room (b ∷ bs) s =
     let w : List ℕ = b ∷ bs in
-    let a = readField w 37 s in
+    let a = readField w answerRoom s in
     let left = room - length (answerBytes (a .answer)) in
     let v = drop (consumedBy w) w in
     by-tests t w s (answeredOf false left (fieldsFrom n v) (a .sheet)) (omega arith) (isNext false room w) (lastOf (a .answer)) (is-ready room w) refl

@@ -12,7 +12,8 @@ use Rattle.sheet.specs.declared.Answer.{Answer}
 use Rattle.sheet.specs.declared.Rest.{Rest}
 use Rattle.sheet.specs.Parts.{whole}
 use Rattle.sheet.specs.Range.{InRange}
-use Rattle.fields.specs.Field.{readField, answerBytes, lastOf}
+use Rattle.fields.specs.Field.{readField}
+use Rattle.answers.specs.Answers.{answerBytes, lastOf, answerRoom}
 use Rattle.headers.specs.Headers.{readyOf}
 use Rattle.lists.specs.Lists.{spanOf, sheetAfter, answersTo, bytesOf}
 use Rattle.stream.specs.declared.Progress.{Progress}
@@ -20,18 +21,18 @@ use Rattle.stream.specs.declared.Progress.{Progress}
 -- the field at the front of the bytes is answered now: there are bytes, they can be read now or no more follow, and 37 bytes of output
 -- are left
 unfoldable pub isNext : Bool → ℕ → List ℕ → Bool
-isNext ended room f = (ltb 0 (length f) && (ended || readyOf f)) && leb 37 room
+isNext ended room f = (ltb 0 (length f) && (ended || readyOf f)) && leb answerRoom room
 
 -- another may be answered after it: it is answered, and not with a 3
 unfoldable pub goesOn : Bool → ℕ → List ℕ → Sheet → Bool
-goesOn ended room f s = isNext ended room f && not (lastOf (readField f 37 s .answer))
+goesOn ended room f s = isNext ended room f && not (lastOf (readField f answerRoom s .answer))
 
 -- of the fields at hand, those that are answered now; none after a 3
 unfoldable pub answeredOf : Bool → ℕ → List (List ℕ) → Sheet → List (List ℕ)
 answeredOf ended room [] s = []
 answeredOf ended room (f ∷ fs) s =
     cond (isNext ended room f)
-    (f ∷ cond (lastOf (readField f 37 s .answer)) [] (answeredOf ended (room - length (answerBytes (readField f 37 s .answer))) fs (readField f 37 s .sheet))) []
+    (f ∷ cond (lastOf (readField f answerRoom s .answer)) [] (answeredOf ended (room - length (answerBytes (readField f answerRoom s .answer))) fs (readField f answerRoom s .sheet))) []
 
 -- the next of them, or none
 abbrev pub nextOf : Bool → ℕ → List ℕ → List (List ℕ)
@@ -60,5 +61,5 @@ pub record Within (s : Sheet) (read answered : ℕ) (input before after : List �
   pub in-range : InRange s
   pub consumed : read ≤ length input
   pub written : answered ≤ length before
-  pub room : 37 ≤ length before
+  pub room : answerRoom ≤ length before
   pub same : length after ≡ length before

@@ -1,4 +1,6 @@
 // An input that comes in pieces: the fields at hand are answered, and the bytes that they leave go to the front.
+use answers::ANSWER_ROOM;
+use effects::Effects;
 use sheet::Rest;
 ghost use mathlib.Core.Path.{_≡_};
 ghost use mathlib.Core.List.{[], _∷_};
@@ -9,7 +11,8 @@ ghost use lib.Seq.{slice};
 ghost use Rattle.wire.specs.Bytes.{over};
 ghost use Rattle.sheet.specs.Range.{InRange};
 ghost use Rattle.sheet.specs.Parts.{whole};
-ghost use Rattle.fields.specs.Field.{readField, lastOf};
+ghost use Rattle.fields.specs.Field.{readField};
+ghost use Rattle.answers.specs.Answers.{lastOf, answerRoom};
 ghost use Rattle.lists.specs.Lists.{fieldsOf};
 ghost use Rattle.stream.specs.Answering.{isNext, goesOn, nextOf, answeredOf, begun, Progressed, Within};
 
@@ -23,9 +26,9 @@ pub struct Progress {
 }
 
 // Answers one field, after the answers that wait in the output.
-fn answer(p: Progress, effects: &mut [i16; 1536], input: &[u8], output: &mut [u8]) -> Progress
-    requires { ⌜ Within (whole (p .rest) (now effects)) (p .consumed) (p .written) (now input) (now output) (now output) × (p .written + 37 ≤ length (now output)) ⌝ }
-    ensures { λ r. ⌜ Progressed (drop (p .consumed) (now (input .entry)) ∷ []) p (now (effects .entry)) (now (output .entry)) r (now (effects .exit)) (now (output .exit)) × (r .more ≡ not (lastOf (readField (drop (p .consumed) (now (input .entry))) 37 (whole (p .rest) (now (effects .entry))) .answer))) ⌝ }
+fn answer(p: Progress, effects: &mut Effects, input: &[u8], output: &mut [u8]) -> Progress
+    requires { ⌜ Within (whole (p .rest) (now effects)) (p .consumed) (p .written) (now input) (now output) (now output) × (p .written + answerRoom ≤ length (now output)) ⌝ }
+    ensures { λ r. ⌜ Progressed (drop (p .consumed) (now (input .entry)) ∷ []) p (now (effects .entry)) (now (output .entry)) r (now (effects .exit)) (now (output .exit)) × (r .more ≡ not (lastOf (readField (drop (p .consumed) (now (input .entry))) answerRoom (whole (p .rest) (now (effects .entry))) .answer))) ⌝ }
 {
     let rest = p.rest;
     let consumed = p.consumed;
@@ -33,7 +36,7 @@ fn answer(p: Progress, effects: &mut [i16; 1536], input: &[u8], output: &mut [u8
     let r = fields::read_in(rest, effects, &input[consumed..], &mut output[written..]);
     let next = r.rest;
     let a = r.answer;
-    let last = fields::is_last(a);
+    let last = answers::is_last(a);
     Progress {
         rest: next,
         consumed: consumed + r.consumed,
@@ -48,13 +51,13 @@ fn is_next(ended: bool, room: usize, bytes: &[u8]) -> bool
     ensures { λ r. ⌜ r ≡ isNext ended room (now (bytes .entry)) ⌝ }
 {
     let ready = headers::is_ready(bytes);
-    (0 < bytes.len()) & (ended | ready) & (37 <= room)
+    (0 < bytes.len()) & (ended | ready) & (ANSWER_ROOM <= room)
 }
 
 // Answers the next field where it can be read now and its answer has room.
 fn step(
     p: Progress,
-    effects: &mut [i16; 1536],
+    effects: &mut Effects,
     ended: bool,
     input: &[u8],
     output: &mut [u8],
@@ -75,12 +78,12 @@ fn step(
 // Answers the fields at hand.
 pub fn answer_all(
     rest: Rest,
-    effects: &mut [i16; 1536],
+    effects: &mut Effects,
     ended: bool,
     input: &[u8],
     output: &mut [u8],
 ) -> Progress
-    requires { ⌜ InRange (whole rest (now effects)) × (37 ≤ length (now output)) ⌝ }
+    requires { ⌜ InRange (whole rest (now effects)) × (answerRoom ≤ length (now output)) ⌝ }
     ensures { λ r. ⌜ Progressed (answeredOf ended (length (now (output .entry))) (fieldsOf (now (input .entry))) (whole rest (now (effects .entry)))) (begun rest) (now (effects .entry)) (now (output .entry)) r (now (effects .exit)) (now (output .exit)) ⌝ }
     ensures { λ r. ⌜ Within (whole (r .rest) (now (effects .exit))) (r .consumed) (r .written) (now (input .entry)) (now (output .entry)) (now (output .exit)) ⌝ }
 {

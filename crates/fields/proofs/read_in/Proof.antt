@@ -5,9 +5,12 @@ use mathlib.Core.Path.{_≡_, refl, sym, _∙_, ap}
 use native.Mathlib.Omega.{arith}
 use borrow.Author.Tests.{lt-ltb, le-ltb}
 use Rattle.wire.specs.Bytes.{over}
-use Rattle.fields.specs.Field.{readField, readHeader, reading, answerBytes}
+use Rattle.sheet.specs.declared.Answered.{Answered}
+use Rattle.fields.specs.Field.{readField, readHeader, reading}
+use Rattle.answers.specs.Answers.{answerBytes}
 use Rattle.headers.proofs.Whole.{header-fits}
 use Rattle.fields.proofs.Within.{read-on}
+use Rattle.fields.proofs.Named.{refused-fits, field-fits}
 use borrow.Author.Needs.{needs}
 use Rattle.fields.proofs.read_in.Statement.{statement}
 use Rattle.fields.proofs.read_in.Tie as tie
@@ -26,7 +29,7 @@ enum-told : tie.Need-enum-told
 enum-told c = search needs
 
 put-answer-requires : tie.Need-put-answer-requires
-put-answer-requires c κs = search needs
+put-answer-requires c κs = (search needs, refused-fits 3)
 
 same-length : tie.Need-same-length
 same-length c = search needs
@@ -55,7 +58,7 @@ field-in-requires : tie.Need-field-in-requires
 field-in-requires c κs = search needs
 
 put-answer-requires-2 : tie.Need-put-answer-requires-2
-put-answer-requires-2 c κs = search needs
+put-answer-requires-2 c κs = (search needs, rw (ap (λ (a : Answered). a .answer) (c .before .field-in .ensures)) (field-fits _ _ _))
 
 add-t14 : tie.Need-add-t14
 add-t14 c =

@@ -13,11 +13,12 @@ use Rattle.frames.proofs.Serving.{Serving, serving-start, serving-next,
 use borrow.Author.Needs.{needs}
 use Rattle.frames.proofs.serve.Statement.{statement}
 use Rattle.frames.proofs.serve.Tie as tie
+use Rattle.answers.specs.Answers.{answerRoom}
 
 abbrev Inv-loop : tie.InvT-loop
 Inv-loop effects₀ input₀ output₀ s₀ left₀ effects input output s left =
     Serving (length output₀) freshSheet (whole (s .rest) effects) (take (s .held) input) (s .more) left
-    × InRange (whole (s .rest) effects) × (s .held ≤ length input) × (37 ≤ length output) × (length input ≡ length input₀) × (length output ≡ length output₀)
+    × InRange (whole (s .rest) effects) × (s .held ≤ length input) × (answerRoom ≤ length output) × (length input ≡ length input₀) × (length output ≡ length output₀)
 
 abbrev μ-loop : tie.MeasureT-loop
 μ-loop effects₀ input₀ output₀ s₀ left₀ effects input output s left = left

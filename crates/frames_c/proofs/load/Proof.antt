@@ -15,8 +15,9 @@ use Rattle.frames_c.proofs.Calls.{load-is}
 use borrow.Author.Needs.{needs}
 use Rattle.frames_c.proofs.load.Statement.{statement}
 use Rattle.frames_c.proofs.load.Tie as tie
+use Rattle.answers.specs.Answers.{answerRoom}
 
-small : (n : ℕ) → Room false 0 n 37
+small : (n : ℕ) → Room false 0 n answerRoom
 unfolding Room
 small n = omega arith
 
@@ -44,7 +45,7 @@ returns c =
     let a = f .before .before .before in
     let e : whole (f .fresh .result) (a .args .effects .now) ≡ freshSheet =
     rw (f .fresh .ensures, f .before .fresh-settings .ensures) (fresh-whole freshSettings (a .pre)) in
-    load-is (a .args .state .now) (r .read-all .result) _ (replicate 37 0) (rw e at (r .read-all .ensures))
+    load-is (a .args .state .now) (r .read-all .result) _ (replicate answerRoom 0) (rw e at (r .read-all .ensures))
 
 pub load-spec : {M : Type 1} → statement M
 load-spec = tie.close (tie.spec fresh-settings-requires fresh-requires slice-aggregate-read-all read-all-requires returns)

@@ -1,13 +1,11 @@
 -- `saving::put_effects` meets its contract.
 -- Assumes nothing.
 use Prim.Native.Nat.{ℕ}
-use mathlib.Core.Path.{_≡_}
 use mathlib.Core.List.{List, [], _∷_}
-use mathlib.Core.Bool.{cond}
 use borrow.Author.Needs.{needs}
 use lib.IntN.{ℤ}
 use Rattle.effects.specs.Effects.{effectIn}
-use Rattle.saving.specs.Saved.{words, effectsField, stationBytes}
+use Rattle.saving.specs.Saved.{words, effectsField}
 use Rattle.wire.proofs.Stores.{put-none, put-two}
 use Rattle.saving.proofs.Appending.{Read, station-put, words-put}
 use Rattle.saving.proofs.put_effects.Statement.{statement}

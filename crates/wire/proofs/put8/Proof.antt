@@ -7,21 +7,6 @@ use Rattle.wire.proofs.Stores.{put-two}
 use Rattle.wire.proofs.put8.Statement.{statement}
 use Rattle.wire.proofs.put8.Tie as tie
 
-cast-high : tie.Need-cast-high
-cast-high c = search needs
-
-cast-low : tie.Need-cast-low
-cast-low c = search needs
-
-put4-requires : tie.Need-put4-requires
-put4-requires c κs = search needs
-
-put4-requires-2 : tie.Need-put4-requires-2
-put4-requires-2 c κs = search needs
-
-same-length : tie.Need-same-length
-same-length c = search needs
-
 returns : tie.Need-returns
 unfolding bytes8 bytes4
 returns c =
@@ -32,4 +17,11 @@ returns c =
 
 pub put8-spec : {M : Type 1} → statement M
 put8-spec =
-    tie.close (tie.spec cast-high cast-low put4-requires put4-requires-2 same-length returns)
+    tie.close
+    (tie.spec
+    (λ c. search needs)
+    (λ c. search needs)
+    (λ c κs. search needs)
+    (λ c κs. search needs)
+    (λ c. search needs)
+    returns)

@@ -1,70 +1,47 @@
--- `fields::put_answer` meets its contract: the runs of each answer are its bytes, put over the front.
+-- `answers::put_answer` meets its contract: the runs of each answer are its bytes, put over the front.
 -- Assumes nothing.
 use Prim.Native.Nat.{ℕ, _≤_}
-use mathlib.Core.Path.{refl}
+use mathlib.Core.Path.{_≡_, refl}
 use mathlib.Core.List.{List, [], _∷_, _++_}
 use native.Mathlib.Omega.{arith}
 use borrow.Author.Tests.{eq-eqb, ne-eqb}
 use lib.ListN.{length}
 use Rattle.wire.specs.Bytes.{bytes4, bytes8, over}
 use Rattle.wire.proofs.Stores.{put-two}
-use Rattle.fields.specs.Field.{extremeBytes, utilisedBytes, answerBytes}
-use Rattle.fields.proofs.Laws.{put-front}
+use Rattle.sheet.specs.declared.Answer.{Answer}
+use Rattle.answers.specs.Rows.{RowsFit}
+use Rattle.answers.specs.Answers.{extremeBytes, utilisedBytes, answerBytes}
+use Rattle.answers.proofs.Room.{put-front}
 use borrow.Author.Needs.{needs}
-use Rattle.fields.proofs.put_answer.Statement.{statement}
-use Rattle.fields.proofs.put_answer.Tie as tie
+use Rattle.answers.proofs.put_answer.Statement.{statement}
+use Rattle.answers.proofs.put_answer.Tie as tie
 
-enum-told : tie.Need-enum-told
-enum-told c = search needs
-
-slice-aggregate-put-at : tie.Need-slice-aggregate-put-at
-slice-aggregate-put-at c = search needs
-
-put-at-requires : tie.Need-put-at-requires
-put-at-requires c κs = search needs
-
-enum-known-answer : tie.Need-enum-known-answer
-enum-known-answer c = search needs
+fits : {a b : Answer} → RowsFit a → a ≡ b → RowsFit b
+fits h e = rw (← e) h
 
 returns : tie.Need-returns
 unfolding answerBytes over
 returns c = rw (c .before .before .answer .given .1, eq-eqb _ 14 (c .if1 .taken)) (refl, refl)
 
-slice-aggregate-put-at-2 : tie.Need-slice-aggregate-put-at-2
-slice-aggregate-put-at-2 c = search needs
-
-put-at-requires-2 : tie.Need-put-at-requires-2
-put-at-requires-2 c κs = search needs
-
-enum-known-answer-2 : tie.Need-enum-known-answer-2
-enum-known-answer-2 c = search needs
-
-slice-aggregate-put-at-3 : tie.Need-slice-aggregate-put-at-3
-slice-aggregate-put-at-3 c = search needs
-
-put-at-requires-3 : tie.Need-put-at-requires-3
-put-at-requires-3 c κs = search needs
-
 put-extreme-requires : tie.Need-put-extreme-requires
-put-extreme-requires c κs = search needs
+unfolding RowsFit
+put-extreme-requires c κs =
+    let h = c .before .before .before .before .before .before .before in
+    let f = fits (h .before .before .before .pre .1) (h .answer2 .given .1) in
+    (omega (arith, f .0, f .1), search needs)
 
 put-extreme-requires-2 : tie.Need-put-extreme-requires-2
-put-extreme-requires-2 c κs = search needs
-
-enum-known-answer-3 : tie.Need-enum-known-answer-3
-enum-known-answer-3 c = search needs
-
-slice-aggregate-put-at-4 : tie.Need-slice-aggregate-put-at-4
-slice-aggregate-put-at-4 c = search needs
-
-put-at-requires-4 : tie.Need-put-at-requires-4
-put-at-requires-4 c κs = search needs
+unfolding RowsFit
+put-extreme-requires-2 c κs =
+    let h = c .before .before .before .before .before .before .before .before .before .before .before in
+    let f = fits (h .before .before .before .pre .1) (h .answer2 .given .1) in
+    (omega (arith, f .0, f .1), search needs)
 
 put-utilised-requires : tie.Need-put-utilised-requires
-put-utilised-requires c κs = search needs
-
-same-length : tie.Need-same-length
-same-length c = search needs
+unfolding RowsFit
+put-utilised-requires c κs =
+    let h = c .before .before .before .before .before .before .before in
+    (fits (h .before .before .before .pre .1) (h .answer3 .given .1), search needs)
 
 returns-2 : tie.Need-returns-2
 unfolding answerBytes
@@ -73,9 +50,6 @@ returns-2 c =
     let h : 3 ≤ length o = omega arith in
     rw (c .before .before .before .before .before .enum-told .given .1) (put-front _ o h (c .before .before .put-at .ensures))
 
-same-length-2 : tie.Need-same-length-2
-same-length-2 c = search needs
-
 returns-3 : tie.Need-returns-3
 unfolding answerBytes
 returns-3 c =
@@ -83,9 +57,6 @@ returns-3 c =
     let o = i .before .before .before .before .before .args .out .now in
     let h : 4 ≤ length o = omega arith in
     rw (i .before .before .answer .given .1, ne-eqb _ 14 (i .if1 .left)) (put-front _ o h (c .before .before .put-at2 .ensures))
-
-same-length-3 : tie.Need-same-length-3
-same-length-3 c = search needs
 
 returns-4 : tie.Need-returns-4
 unfolding answerBytes extremeBytes bytes8 bytes4
@@ -104,9 +75,6 @@ returns-4 c =
     (put-two u (v ++ w) o 0 (p .put-at3 .ensures)
     (put-two v w (p .put-at3 .last .0) (p .put-at3 .result) (q .put-extreme .ensures) (r .put-extreme2 .ensures))))
 
-same-length-4 : tie.Need-same-length-4
-same-length-4 c = search needs
-
 returns-5 : tie.Need-returns-5
 unfolding answerBytes utilisedBytes bytes8 bytes4
 returns-5 c =
@@ -123,27 +91,27 @@ pub put-answer-spec : {M : Type 1} → statement M
 put-answer-spec =
     tie.close
     (tie.spec
-    enum-told
-    slice-aggregate-put-at
-    put-at-requires
-    enum-known-answer
+    (λ c. search needs)
+    (λ c. search needs)
+    (λ c κs. search needs)
+    (λ c. search needs)
     returns
-    slice-aggregate-put-at-2
-    put-at-requires-2
-    enum-known-answer-2
-    slice-aggregate-put-at-3
-    put-at-requires-3
+    (λ c. search needs)
+    (λ c κs. search needs)
+    (λ c. search needs)
+    (λ c. search needs)
+    (λ c κs. search needs)
     put-extreme-requires
     put-extreme-requires-2
-    enum-known-answer-3
-    slice-aggregate-put-at-4
-    put-at-requires-4
+    (λ c. search needs)
+    (λ c. search needs)
+    (λ c κs. search needs)
     put-utilised-requires
-    same-length
+    (λ c. search needs)
     returns-2
-    same-length-2
+    (λ c. search needs)
     returns-3
-    same-length-3
+    (λ c. search needs)
     returns-4
-    same-length-4
+    (λ c. search needs)
     returns-5)

@@ -1,8 +1,8 @@
--- `fields::is_last` meets its contract: of the answers only refusal 3 is the last.
+-- `answers::is_last` meets its contract: of the answers only refusal 3 is the last.
 -- Assumes nothing.
 use borrow.Author.Needs.{needs}
-use Rattle.fields.proofs.is_last.Statement.{statement}
-use Rattle.fields.proofs.is_last.Tie as tie
+use Rattle.answers.proofs.is_last.Statement.{statement}
+use Rattle.answers.proofs.is_last.Tie as tie
 
 enum-told : tie.Need-enum-told
 enum-told c = search needs
