@@ -25,7 +25,7 @@ use Rattle.saving.proofs.Lengths.{saved-most}
 use Rattle.frames_c.specs.declared.Progress.{Progress}
 use Rattle.lists.specs.Lists.{fieldsOf, sheetAfter, answersTo, bytesOf}
 use Rattle.lists.proofs.Joins.{kept-after, answers-long}
-use Rattle.frames_c.specs.Lists.{loaded, dueState, short, dueAnswer, dueRun, AnswerDone, RunDone}
+use Rattle.frames_c.specs.Calls.{loaded, dueState, short, dueAnswer, dueRun, AnswerDone, RunDone}
 use Rattle.frames_c.specs.Loop.{State, starting, steppedAll, stateOf, Room, countOf}
 use Rattle.frames_c.proofs.Loop.{sheet-after, refusal-after, written-after, output-after}
 use Rattle.answers.specs.Answers.{answerRoom}

@@ -22,7 +22,7 @@ use Rattle.answers.proofs.Room.{answer-fits}
 use Rattle.frames_c.specs.declared.Progress.{Progress}
 use Rattle.lists.specs.Lists.{fieldsOf, sheetAfter, answersTo, bytesOf}
 use Rattle.lists.proofs.Left.{Left, left-all, left-none, left-next}
-use Rattle.frames_c.specs.Lists.{refusalOf, firstRefusal}
+use Rattle.frames_c.specs.Calls.{refusalOf, firstRefusal}
 use Rattle.frames_c.specs.Loop.{State, advanced, stepped, steppedAll, stateOf, Room, Reached, Stepped}
 
 -- the steps that are left lead where all of them lead

@@ -18,8 +18,7 @@ use Rattle.saving.proofs.RoundTrip.{round-trip}
 use Rattle.lists.specs.Lists.{fieldsFrom, fieldsOf, sheetAfter, answersTo}
 use Rattle.lists.proofs.Left.{no-fields}
 use Rattle.lists.proofs.Joins.{kept-after}
-use Rattle.frames_c.specs.Lists.{firstRefusal, loaded, dueState, savedAfter}
-use Rattle.answers.specs.Answers.{answerRoom}
+use Rattle.frames_c.specs.Calls.{firstRefusal, loaded, dueState, savedAfter}
 
 -- every field of the list is accepted, and they lead to the sheet
 abbrev Accepted : List (List ℕ) → Sheet → Sheet → Type 0

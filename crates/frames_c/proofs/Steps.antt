@@ -17,7 +17,7 @@ use Rattle.fields.specs.Readings.{FieldRead, wholeReading}
 use Rattle.fields.proofs.Kept.{read-kept}
 use Rattle.lists.proofs.Placed.{read-at}
 use Rattle.frames_c.specs.declared.Progress.{Progress}
-use Rattle.frames_c.specs.Lists.{refusalOf}
+use Rattle.frames_c.specs.Calls.{refusalOf}
 use Rattle.frames_c.specs.Loop.{advanced, stepped, Reached, Stepped}
 
 pub step-is : (p : Progress) (keep : Bool) (effects : List ℤ) (input output : List ℕ) → Reached p effects input output →

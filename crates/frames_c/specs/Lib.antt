@@ -1,2 +1,2 @@
-pub mod Lists
+pub mod Calls
 pub mod Loop

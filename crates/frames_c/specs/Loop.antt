@@ -16,7 +16,7 @@ use Rattle.answers.specs.Answers.{answerBytes, answerRoom}
 use Rattle.saving.specs.declared.Saved.{Saved}
 use Rattle.saving.specs.declared.Saved.the-variants.{Written, Refused}
 use Rattle.frames_c.specs.declared.Progress.{Progress}
-use Rattle.frames_c.specs.Lists.{refusalOf}
+use Rattle.frames_c.specs.Calls.{refusalOf}
 
 pub record State : Type 0 where
   pub sheet : Sheet

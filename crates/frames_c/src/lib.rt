@@ -13,7 +13,7 @@ ghost use Rattle.effects.specs.Effects.{zeros, effectCount};
 ghost use Rattle.sheet.specs.Parts.{whole};
 ghost use Rattle.sheet.specs.Range.{InRange};
 ghost use Rattle.lists.specs.Lists.{fieldsOf};
-ghost use Rattle.frames_c.specs.Lists.{refusalOf, loaded, dueState, short, AnswerDone, RunDone};
+ghost use Rattle.frames_c.specs.Calls.{refusalOf, loaded, dueState, short, AnswerDone, RunDone};
 ghost use Rattle.frames_c.specs.Loop.{starting, advanced, steppedAll, stateOf, Room, Reached, Stepped, countOf};
 
 // The refusal's number, or 0, and how many bytes were written and saved.

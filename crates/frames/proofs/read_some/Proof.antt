@@ -55,8 +55,17 @@ same-length-2 c = search needs
 
 returns-2 : tie.Need-returns-2
 returns-2 c =
-    let a = c .before .before .before .before .before .before .before .before .before .before .before in
-    record { least = search needs; most = search needs; same = search needs; kept = take-put (a .args .held) (length (a .args .input .now) - a .args .held) (a .args .input .now) (c .before .before .before .before .read .last .1 .0) (a .pre); ended = λ e. (refl, not-ready (a .args .input .now) (a .args .held) (c .before .before .before .before .before .before .before .is-ready .ensures) (c .before .before .before .before .before .before .if1 .left)) }
+    let r = c .before .before .before .before in
+    let f₁ = r .before .before in
+    let f = f₁ .before in
+    let a = f .before .before .before .before in
+    record {
+      least = search needs;
+      most = search needs;
+      same = search needs;
+      kept = take-put (a .args .held) (length (a .args .input .now) - a .args .held) (a .args .input .now) (r .read .last .1 .0) (a .pre);
+      ended = λ e. (refl, not-ready (a .args .input .now) (a .args .held) (f .is-ready .ensures) (f₁ .if1 .left));
+    }
 
 sub-count : tie.Need-sub-count
 sub-count c = search needs
@@ -78,8 +87,17 @@ same-length-3 c = search needs
 
 returns-3 : tie.Need-returns-3
 returns-3 c =
-    let a = c .before .before .before .before .before .before .before .before .before .before .before .before .before in
-    record { least = search needs; most = search needs; same = search needs; kept = take-put (a .args .held) (length (a .args .input .now) - a .args .held) (a .args .input .now) (c .before .before .before .before .before .before .read .last .1 .0) (a .pre); ended = λ e. ((let k = ltb-false 0 (c .count .result) e in omega arith), not-ready (a .args .input .now) (a .args .held) (c .before .before .before .before .before .before .before .before .before .is-ready .ensures) (c .before .before .before .before .before .before .before .before .if1 .left)) }
+    let r = c .before .before .before .before .before .before in
+    let f₁ = r .before .before in
+    let f = f₁ .before in
+    let a = f .before .before .before .before in
+    record {
+      least = search needs;
+      most = search needs;
+      same = search needs;
+      kept = take-put (a .args .held) (length (a .args .input .now) - a .args .held) (a .args .input .now) (r .read .last .1 .0) (a .pre);
+      ended = λ e. ((let k = ltb-false 0 (c .count .result) e in omega arith), not-ready (a .args .input .now) (a .args .held) (f .is-ready .ensures) (f₁ .if1 .left));
+    }
 
 pub read-some-spec : {M : Type 1} → statement M
 read-some-spec =
