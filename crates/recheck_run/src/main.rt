@@ -1,6 +1,6 @@
 // Runs the library's reader over the stored fields on standard input, passes every field and its answer to the second
-// checker (crate recheck), and writes a summary.
-use recheck::Model;
+// checker (crates recheck_bytes to recheck_answers), and writes a summary.
+use recheck_sheet::Model;
 use sheet::Answer;
 use sheet::Sheet;
 use standard::Settings;
@@ -47,7 +47,7 @@ fn fresh_sheet() -> Sheet
 // The bytes that a reading of this input must consume, by the header alone: all of them where the field is cut short.
 fn field_size(input: &[u8]) -> usize {
     let n = input.len();
-    let body = recheck::bytes::pair_at(input, 1) as usize;
+    let body = recheck_bytes::pair_at(input, 1) as usize;
     if n < 3 {
         return n;
     }
@@ -157,7 +157,7 @@ fn read_and_judge(run: Run, input: &[u8], out: &mut [u8]) -> Run
     let r = fields::read_field(sheet, &input[start..], out);
     let written = r.written;
     let end = start + r.consumed;
-    let j = recheck::judge(model, &input[start..end], &out[0..written]);
+    let j = recheck_answers::judge(model, &input[start..end], &out[0..written]);
     let ok = j.ok & (r.consumed == size) & unwritten(out, written);
     let next = r.sheet;
     let judged = j.model;
@@ -197,7 +197,7 @@ fn first_run() -> Run
     ensures { λ r. ⌜ r .start ≡ 0 ⌝ }
 {
     let sheet = fresh_sheet();
-    let model = recheck::fresh();
+    let model = recheck_sheet::fresh();
     let tally = Tally {
         readings: 0,
         looks: 0,
