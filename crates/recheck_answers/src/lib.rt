@@ -1,4 +1,4 @@
-// A second checker, made from the scope document alone and apart from the library: it keeps the sheet itself,
+// A second checker, made from the scope document alone and apart from the library: it keeps a working sheet itself,
 // works out what each answer must be, and tries every admissible combination of a small sheet.
 
 pub mod looks; // looks.rt: answers to tags 06 and 07
@@ -9,13 +9,13 @@ use looks::utilisation_right;
 use recheck_bytes::byte_at;
 use recheck_bytes::number_at;
 use recheck_refusals::refusal_due;
-use recheck_sheet::Model;
+use recheck_sheet::WorkingSheet;
 use recheck_sheet::changed;
 
 // The sheet after a reading, and what was seen: whether the answer is right, whether a look was asked for and
 // answered, whether that look had too many cases for the enumeration, and whether a refusal was due.
-pub struct Judged {
-    pub model: Model,
+pub struct Checked {
+    pub working: WorkingSheet,
     pub ok: bool,
     pub looked: bool,
     pub skipped: bool,
@@ -41,28 +41,28 @@ fn is_accepted(answer: &[u8]) -> bool {
     number_at(answer, 0, 3) == 0x800000
 }
 
-fn verdict(m: Model, ok: bool, looked: bool, refused: bool) -> Judged {
-    Judged {
-        model: m,
+fn reading_checked(w: WorkingSheet, ok: bool, looked: bool, refused: bool) -> Checked {
+    Checked {
+        working: w,
         ok: ok,
         looked: looked,
-        skipped: looked && is_large(m),
+        skipped: looked && is_large(w),
         refused: refused,
     }
 }
 
-// Judges the answer to one reading: a whole field, or one cut short.
-pub fn judge(m: Model, field: &[u8], answer: &[u8]) -> Judged {
-    let n = refusal_due(m, field);
+// Checks the answer to one reading: a whole field, or one cut short.
+pub fn check_answer(w: WorkingSheet, field: &[u8], answer: &[u8]) -> Checked {
+    let n = refusal_due(w, field);
     if n != 0 {
-        return verdict(m, is_refusal(answer, n), false, true);
+        return reading_checked(w, is_refusal(answer, n), false, true);
     }
     let tag = byte_at(field, 0);
     if tag == 6 {
-        return verdict(m, extremes_right(m, field, answer), true, false);
+        return reading_checked(w, extremes_right(w, field, answer), true, false);
     }
     if tag == 7 {
-        return verdict(m, utilisation_right(m, field, answer), true, false);
+        return reading_checked(w, utilisation_right(w, field, answer), true, false);
     }
-    verdict(changed(m, field), is_accepted(answer), false, false)
+    reading_checked(changed(w, field), is_accepted(answer), false, false)
 }

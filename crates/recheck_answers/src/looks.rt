@@ -13,7 +13,7 @@ use recheck_enumeration::filled;
 use recheck_enumeration::members;
 use recheck_enumeration::reaches;
 use recheck_rows::low_factor;
-use recheck_sheet::Model;
+use recheck_sheet::WorkingSheet;
 use std::num::wrapping_add_u64;
 use std::num::wrapping_add_usize;
 
@@ -43,56 +43,56 @@ fn signed_at(answer: &[u8], at: usize) -> u64 {
     wrapping_add_u64(number_at(answer, at, 8), 9223372036854775808)
 }
 
-fn options(m: Model) -> Options {
+fn options(w: WorkingSheet) -> Options {
     Options {
-        method: m.method,
-        live: m.live,
-        zone: m.zone,
+        method: w.method,
+        live: w.live,
+        zone: w.zone,
     }
 }
 
 // Whether the sheet has too many filled places for the enumeration.
-pub fn is_large(m: Model) -> bool {
-    members(filled(&m.kinds)) > 7
+pub fn is_large(w: WorkingSheet) -> bool {
+    members(filled(&w.kinds)) > 7
 }
 
-pub fn extremes_right(m: Model, field: &[u8], answer: &[u8]) -> bool {
+pub fn extremes_right(w: WorkingSheet, field: &[u8], answer: &[u8]) -> bool {
     if answer.len() != 37 {
         return false;
     }
     if number_at(answer, 0, 3) != 0x860022 {
         return false;
     }
-    let effects = effects_at(&m.effects, index_at(field, 3));
-    let o = options(m);
+    let effects = effects_at(&w.effects, index_at(field, 3));
+    let o = options(w);
     let k = Look {
         component: byte_at(field, 4),
-        low_factor: low_factor(m.method),
+        low_factor: low_factor(w.method),
         least: signed_at(answer, 20),
         greatest: signed_at(answer, 3),
         axial: 0,
         bending_y: 0,
         bending_z: 0,
     };
-    if !reaches(k, o, &m.kinds, &effects, named_at(answer, 11, k.greatest)) {
+    if !reaches(k, o, &w.kinds, &effects, named_at(answer, 11, k.greatest)) {
         return false;
     }
-    if !reaches(k, o, &m.kinds, &effects, named_at(answer, 28, k.least)) {
+    if !reaches(k, o, &w.kinds, &effects, named_at(answer, 28, k.least)) {
         return false;
     }
-    if is_large(m) {
+    if is_large(w) {
         return k.least <= k.greatest;
     }
-    all_between(k, o, &m.kinds, &effects)
+    all_between(k, o, &w.kinds, &effects)
 }
 
 // One capacity of a station.
-fn capacity(m: Model, station: usize, component: usize) -> u64 {
+fn capacity(w: WorkingSheet, station: usize, component: usize) -> u64 {
     let at = station % 16 * 3 + component % 3;
-    m.capacities[at] as u64
+    w.capacities[at] as u64
 }
 
-pub fn utilisation_right(m: Model, field: &[u8], answer: &[u8]) -> bool {
+pub fn utilisation_right(w: WorkingSheet, field: &[u8], answer: &[u8]) -> bool {
     if answer.len() != 29 {
         return false;
     }
@@ -100,27 +100,27 @@ pub fn utilisation_right(m: Model, field: &[u8], answer: &[u8]) -> bool {
         return false;
     }
     let station = index_at(field, 3);
-    let effects = effects_at(&m.effects, station);
-    let o = options(m);
+    let effects = effects_at(&w.effects, station);
+    let o = options(w);
     let k = Look {
         component: 3,
-        low_factor: low_factor(m.method),
+        low_factor: low_factor(w.method),
         least: 0,
         greatest: number_at(answer, 3, 8),
-        axial: capacity(m, station, 0),
-        bending_y: capacity(m, station, 1),
-        bending_z: capacity(m, station, 2),
+        axial: capacity(w, station, 0),
+        bending_y: capacity(w, station, 1),
+        bending_z: capacity(w, station, 2),
     };
     if !share_right(k, number_at(answer, 11, 8), byte_at(answer, 19)) {
         return false;
     }
-    if !reaches(k, o, &m.kinds, &effects, named_at(answer, 20, k.greatest)) {
+    if !reaches(k, o, &w.kinds, &effects, named_at(answer, 20, k.greatest)) {
         return false;
     }
-    if is_large(m) {
+    if is_large(w) {
         return true;
     }
-    all_between(k, o, &m.kinds, &effects)
+    all_between(k, o, &w.kinds, &effects)
 }
 
 // The denominator is the formula's, and the verdict is pass exactly where the numerator is not above it.

@@ -3,7 +3,7 @@
 use recheck_bytes::byte_at;
 use recheck_bytes::index_at;
 use recheck_bytes::pair_at;
-use recheck_sheet::Model;
+use recheck_sheet::WorkingSheet;
 
 // How long the body of a tag is; a length that no field has for an unknown tag.
 fn body_length(tag: u8) -> u16 {
@@ -119,19 +119,19 @@ fn body_refusal(field: &[u8]) -> u8 {
 }
 
 // What the sheet itself refuses: a place taken, a place empty, a station with no capacity.
-fn sheet_refusal(m: Model, field: &[u8]) -> u8 {
+fn sheet_refusal(w: WorkingSheet, field: &[u8]) -> u8 {
     let case = index_at(field, 3) % 32;
     let station = index_at(field, 3) % 16 * 3;
     match byte_at(field, 0) {
-        2 => { if m.kinds[case] == 0 { 0 } else { 11 } }
-        3 | 4 => { if m.kinds[case] == 0 { 12 } else { 0 } }
-        7 => { if m.capacities[station] == 0 { 13 } else { 0 } }
+        2 => { if w.kinds[case] == 0 { 0 } else { 11 } }
+        3 | 4 => { if w.kinds[case] == 0 { 12 } else { 0 } }
+        7 => { if w.capacities[station] == 0 { 13 } else { 0 } }
         _ => 0,
     }
 }
 
 // The refusal due for a reading on this sheet, or 0.
-pub fn refusal_due(m: Model, field: &[u8]) -> u8 {
+pub fn refusal_due(w: WorkingSheet, field: &[u8]) -> u8 {
     let header = header_refusal(field);
     if header != 0 {
         return header;
@@ -140,5 +140,5 @@ pub fn refusal_due(m: Model, field: &[u8]) -> u8 {
     if body != 0 {
         return body;
     }
-    sheet_refusal(m, field)
+    sheet_refusal(w, field)
 }

@@ -1,6 +1,6 @@
 // Runs the library's reader over the stored fields on standard input, passes every field and its answer to the second
 // checker (crates recheck_bytes to recheck_answers), and writes a summary.
-use recheck_sheet::Model;
+use recheck_sheet::WorkingSheet;
 use sheet::Answer;
 use sheet::Sheet;
 use standard::Settings;
@@ -26,10 +26,10 @@ pub struct Tally {
     pub first: u64,
 }
 
-// The reader's sheet, the second checker's, and the place of the next field.
+// The reader's sheet, the second checker's working sheet, and the place of the next field.
 pub struct Run {
     pub sheet: Sheet,
-    pub model: Model,
+    pub working: WorkingSheet,
     pub start: usize,
     pub tally: Tally,
 }
@@ -117,11 +117,11 @@ fn read_short(run: Run, input: &[u8], out: &mut [u8]) -> Run
     let answer = r.answer;
     let ok = is_no_room(answer) & (r.consumed == 0) & (r.written == 0) & unwritten(out, 0);
     let next = r.sheet;
-    let model = run.model;
+    let working = run.working;
     let t = run.tally;
     Run {
         sheet: next,
-        model,
+        working,
         start,
         tally: with_short(t, ok),
     }
@@ -146,25 +146,25 @@ fn with_reading(t: Tally, ok: bool, looked: bool, skipped: bool, refused: bool) 
 }
 
 // One reading with room for every answer, and what the second checker says of it.
-fn read_and_judge(run: Run, input: &[u8], out: &mut [u8]) -> Run
+fn read_and_check(run: Run, input: &[u8], out: &mut [u8]) -> Run
     requires { ⌜ Place (run .sheet) (run .start) (now input) ⌝ }
     ensures { λ r. ⌜ Place (r .sheet) (r .start) (now (input .entry)) ⌝ }
 {
     let sheet = run.sheet;
-    let model = run.model;
+    let working = run.working;
     let start = run.start;
     let size = field_size(&input[start..]);
     let r = fields::read_field(sheet, &input[start..], out);
     let written = r.written;
     let end = start + r.consumed;
-    let j = recheck_answers::judge(model, &input[start..end], &out[0..written]);
+    let j = recheck_answers::check_answer(working, &input[start..end], &out[0..written]);
     let ok = j.ok & (r.consumed == size) & unwritten(out, written);
     let next = r.sheet;
-    let judged = j.model;
+    let checked = j.working;
     let t = run.tally;
     Run {
         sheet: next,
-        model: judged,
+        working: checked,
         start: end,
         tally: with_reading(t, ok, j.looked, j.skipped, j.refused),
     }
@@ -179,9 +179,9 @@ fn step(run: Run, input: &[u8]) -> Run
     if run.tally.readings % 5 == 0 {
         let mut short = [UNWRITTEN; 36];
         let tried = read_short(run, input, &mut short);
-        return read_and_judge(tried, input, &mut out);
+        return read_and_check(tried, input, &mut out);
     }
-    read_and_judge(run, input, &mut out)
+    read_and_check(run, input, &mut out)
 }
 
 // The turns left after one: none where the input is at its end.
@@ -197,7 +197,7 @@ fn first_run() -> Run
     ensures { λ r. ⌜ r .start ≡ 0 ⌝ }
 {
     let sheet = fresh_sheet();
-    let model = recheck_sheet::fresh();
+    let working = recheck_sheet::fresh();
     let tally = Tally {
         readings: 0,
         looks: 0,
@@ -209,7 +209,7 @@ fn first_run() -> Run
     };
     Run {
         sheet,
-        model,
+        working,
         start: 0,
         tally,
     }

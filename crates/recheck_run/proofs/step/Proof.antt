@@ -10,20 +10,20 @@ slice-aggregate-read-short c = search needs
 read-short-requires : tie.Need-read-short-requires
 read-short-requires c κs = search needs
 
-slice-aggregate-read-and-judge : tie.Need-slice-aggregate-read-and-judge
-slice-aggregate-read-and-judge c = search needs
+slice-aggregate-read-and-check : tie.Need-slice-aggregate-read-and-check
+slice-aggregate-read-and-check c = search needs
 
-read-and-judge-requires : tie.Need-read-and-judge-requires
-read-and-judge-requires c κs = search needs
+read-and-check-requires : tie.Need-read-and-check-requires
+read-and-check-requires c κs = search needs
 
 returns : tie.Need-returns
 returns c = search needs
 
-slice-aggregate-read-and-judge-2 : tie.Need-slice-aggregate-read-and-judge-2
-slice-aggregate-read-and-judge-2 c = search needs
+slice-aggregate-read-and-check-2 : tie.Need-slice-aggregate-read-and-check-2
+slice-aggregate-read-and-check-2 c = search needs
 
-read-and-judge-requires-2 : tie.Need-read-and-judge-requires-2
-read-and-judge-requires-2 c κs = search needs
+read-and-check-requires-2 : tie.Need-read-and-check-requires-2
+read-and-check-requires-2 c κs = search needs
 
 returns-2 : tie.Need-returns-2
 returns-2 c = search needs
@@ -34,9 +34,9 @@ step-spec =
     (tie.spec
     slice-aggregate-read-short
     read-short-requires
-    slice-aggregate-read-and-judge
-    read-and-judge-requires
+    slice-aggregate-read-and-check
+    read-and-check-requires
     returns
-    slice-aggregate-read-and-judge-2
-    read-and-judge-requires-2
+    slice-aggregate-read-and-check-2
+    read-and-check-requires-2
     returns-2)
