@@ -1,6 +1,9 @@
 // One combination: whether it is admissible, and the figure that it gives.
 // Sets of cases are numbers, case k being bit k. Signed figures are two's complement in 64 bits.
 
+ghost use mathlib.Core.Path.{_≡_};
+ghost use Prim.Native.Nat.{_*_, _%_};
+ghost use Rattle.recheck_combinations.specs.Acting.{within, atMostOne, mayAct, mayBeLow, Factors};
 use recheck_rows::factor;
 use std::num::wrapping_add_u64;
 use std::num::wrapping_sub_u64;
@@ -25,11 +28,13 @@ pub struct Rules {
     pub wind: u64,
     pub earthquake: u64,
     pub flood: u64,
-    pub permanent_earth: u64,
+    pub hp: u64,
 }
 
 // Each place's full factor in the row.
-pub fn factors_in(kinds: &[u8; 32], row: u8, option: u8) -> [u64; 32] {
+pub fn factors_in(kinds: &[u8; 32], row: u8, option: u8) -> [u64; 32]
+    ensures { λ r. ⌜ Factors r ⌝ }
+{
     let mut factors = [0u64; 32];
     let mut case: usize = 0;
     while case < 32 {
@@ -63,44 +68,49 @@ pub fn rules_of(kinds: &[u8; 32], factors: &[u64; 32]) -> Rules {
         wind: having(kinds, factors, 9, 9),
         earthquake: having(kinds, factors, 10, 10),
         flood: having(kinds, factors, 11, 11),
-        permanent_earth: having(kinds, factors, 3, 3),
+        hp: having(kinds, factors, 3, 3),
     }
 }
 
 // At most one bit: taking 1 away from a single bit leaves only bits below it.
-fn at_most_one(set: u64) -> bool {
-    set & wrapping_sub_u64(set, 1) == 0
+fn at_most_one(set: u64) -> bool
+    ensures { λ r. ⌜ r ≡ atMostOne set ⌝ }
+{
+    if set == 0 {
+        return true;
+    }
+    set & (set - 1) == 0
 }
 
-fn within(set: u64, all: u64) -> bool {
+fn within(set: u64, all: u64) -> bool
+    ensures { λ r. ⌜ r ≡ within set all ⌝ }
+{
     set | all == all
 }
 
-pub fn may_act(r: Rules, acting: u64) -> bool {
-    if !within(acting, r.may) {
-        return false;
-    }
-    if !within(r.always, acting) {
-        return false;
-    }
-    if !at_most_one(acting & r.roof) {
-        return false;
-    }
-    if !at_most_one(acting & r.wind) {
-        return false;
-    }
-    if !at_most_one(acting & r.earthquake) {
-        return false;
-    }
-    at_most_one(acting & r.flood)
+// Whether these cases may act together.
+pub fn may_act(r: Rules, acting: u64) -> bool
+    ensures { λ b. ⌜ b ≡ mayAct r acting ⌝ }
+{
+    let cases = within(acting, r.may) & within(r.always, acting);
+    let roof = at_most_one(acting & r.roof);
+    let wind = at_most_one(acting & r.wind);
+    let earthquake = at_most_one(acting & r.earthquake);
+    let flood = at_most_one(acting & r.flood);
+    cases & roof & wind & earthquake & flood
 }
 
-pub fn may_be_low(r: Rules, acting: u64, low: u64) -> bool {
-    within(low, acting & r.permanent_earth)
+// Whether these of the acting cases may take the low factor.
+pub fn may_be_low(r: Rules, acting: u64, low: u64) -> bool
+    ensures { λ b. ⌜ b ≡ mayBeLow r acting low ⌝ }
+{
+    within(low, acting & r.hp)
 }
 
 // The product of two numbers below 2^32, as all here are; the remainders are taken only to show that it fits.
-pub fn times(a: u64, b: u64) -> u64 {
+pub fn times(a: u64, b: u64) -> u64
+    ensures { λ r. ⌜ r ≡ a % 4294967296 * (b % 4294967296) ⌝ }
+{
     (a % 4294967296) * (b % 4294967296)
 }
 

@@ -19,7 +19,7 @@ pub struct Options {
 }
 
 // The set of filled places.
-pub fn filled(kinds: &[u8; 32]) -> u64 {
+fn filled(kinds: &[u8; 32]) -> u64 {
     let mut set: u64 = 0;
     let mut bit: u64 = 1;
     let mut case: usize = 0;
@@ -34,7 +34,7 @@ pub fn filled(kinds: &[u8; 32]) -> u64 {
 }
 
 // How many members a set of cases has.
-pub fn members(set: u64) -> usize {
+fn members(set: u64) -> usize {
     let mut rest = set;
     let mut count: usize = 0;
     let mut i: usize = 0;
@@ -46,6 +46,11 @@ pub fn members(set: u64) -> usize {
         i += 1;
     }
     count
+}
+
+// Whether the sheet has too many filled places for the enumeration.
+pub fn is_large(kinds: &[u8; 32]) -> bool {
+    members(filled(kinds)) > 7
 }
 
 // The subset of `all` that takes its lowest member where bit 0 of `number` is set, the next where bit 1 is, and so on.

@@ -1,5 +1,6 @@
 // What a field is owed before it is carried out: the first refusal due, in the order of the paper. 0 is none.
 
+ghost use Prim.Native.Nat.{_≤_, _<_};
 use recheck_bytes::byte_at;
 use recheck_bytes::index_at;
 use recheck_bytes::pair_at;
@@ -19,7 +20,9 @@ fn body_length(tag: u8) -> u16 {
     }
 }
 
-fn header_refusal(field: &[u8]) -> u8 {
+fn header_refusal(field: &[u8]) -> u8
+    ensures { λ r. ⌜ r ≤ 13 ⌝ }
+{
     if field.len() < 3 {
         return 3;
     }
@@ -37,16 +40,23 @@ fn header_refusal(field: &[u8]) -> u8 {
     if length == wanted { 0 } else { 2 }
 }
 
-fn case_refusal(field: &[u8], at: usize) -> u8 {
+fn case_refusal(field: &[u8], at: usize) -> u8
+    ensures { λ r. ⌜ r ≤ 13 ⌝ }
+{
     if byte_at(field, at) > 31 { 5 } else { 0 }
 }
 
-fn station_refusal(field: &[u8], at: usize) -> u8 {
+fn station_refusal(field: &[u8], at: usize) -> u8
+    ensures { λ r. ⌜ r ≤ 13 ⌝ }
+{
     if byte_at(field, at) > 15 { 6 } else { 0 }
 }
 
 // Two's complement: -10,000 is 55,536.
-fn effect_refusal(field: &[u8], at: usize) -> u8 {
+fn effect_refusal(field: &[u8], at: usize) -> u8
+    requires { ⌜ at < 60000 ⌝ }
+    ensures { λ r. ⌜ r ≤ 13 ⌝ }
+{
     let effect = pair_at(field, at);
     if effect > 10000 {
         if effect < 55536 {
@@ -56,7 +66,10 @@ fn effect_refusal(field: &[u8], at: usize) -> u8 {
     0
 }
 
-fn capacity_refusal(field: &[u8], at: usize) -> u8 {
+fn capacity_refusal(field: &[u8], at: usize) -> u8
+    requires { ⌜ at < 60000 ⌝ }
+    ensures { λ r. ⌜ r ≤ 13 ⌝ }
+{
     let capacity = pair_at(field, at);
     if capacity < 1 {
         return 10;
@@ -64,7 +77,9 @@ fn capacity_refusal(field: &[u8], at: usize) -> u8 {
     if capacity > 10000 { 10 } else { 0 }
 }
 
-fn start_refusal(field: &[u8]) -> u8 {
+fn start_refusal(field: &[u8]) -> u8
+    ensures { λ r. ⌜ r ≤ 13 ⌝ }
+{
     let method = byte_at(field, 3);
     if method < 1 {
         return 4;
@@ -78,7 +93,9 @@ fn start_refusal(field: &[u8]) -> u8 {
     if byte_at(field, 5) > 2 { 4 } else { 0 }
 }
 
-fn kind_refusal(field: &[u8], at: usize) -> u8 {
+fn kind_refusal(field: &[u8], at: usize) -> u8
+    ensures { λ r. ⌜ r ≤ 13 ⌝ }
+{
     let kind = byte_at(field, at);
     if kind < 1 {
         return 7;
@@ -86,17 +103,25 @@ fn kind_refusal(field: &[u8], at: usize) -> u8 {
     if kind > 11 { 7 } else { 0 }
 }
 
-fn component_refusal(field: &[u8], at: usize) -> u8 {
+fn component_refusal(field: &[u8], at: usize) -> u8
+    ensures { λ r. ⌜ r ≤ 13 ⌝ }
+{
     if byte_at(field, at) > 2 { 8 } else { 0 }
 }
 
 // The first of several that is due.
-fn first(a: u8, b: u8) -> u8 {
+fn first(a: u8, b: u8) -> u8
+    requires { ⌜ a ≤ 13 ⌝ }
+    requires { ⌜ b ≤ 13 ⌝ }
+    ensures { λ r. ⌜ r ≤ 13 ⌝ }
+{
     if a == 0 { b } else { a }
 }
 
 // The body's values, from first to last.
-fn body_refusal(field: &[u8]) -> u8 {
+fn body_refusal(field: &[u8]) -> u8
+    ensures { λ r. ⌜ r ≤ 13 ⌝ }
+{
     let case = case_refusal(field, 3);
     let station = station_refusal(field, 3);
     match byte_at(field, 0) {
@@ -119,7 +144,9 @@ fn body_refusal(field: &[u8]) -> u8 {
 }
 
 // What the sheet itself refuses: a place taken, a place empty, a station with no capacity.
-fn sheet_refusal(w: WorkingSheet, field: &[u8]) -> u8 {
+fn sheet_refusal(w: WorkingSheet, field: &[u8]) -> u8
+    ensures { λ r. ⌜ r ≤ 13 ⌝ }
+{
     let case = index_at(field, 3) % 32;
     let station = index_at(field, 3) % 16 * 3;
     match byte_at(field, 0) {
@@ -131,7 +158,9 @@ fn sheet_refusal(w: WorkingSheet, field: &[u8]) -> u8 {
 }
 
 // The refusal due for a reading on this sheet, or 0.
-pub fn refusal_due(w: WorkingSheet, field: &[u8]) -> u8 {
+pub fn refusal_due(w: WorkingSheet, field: &[u8]) -> u8
+    ensures { λ r. ⌜ r ≤ 13 ⌝ }
+{
     let header = header_refusal(field);
     if header != 0 {
         return header;

@@ -1,5 +1,9 @@
 // The working sheet, and what becomes of it under tags 01 to 05, once no refusal is due.
 
+ghost use mathlib.Core.Path.{_≡_};
+ghost use Prim.Native.Nat.{_+_, _≤_};
+ghost use Rattle.recheck_bytes.specs.Bytes.{byteAt};
+ghost use Rattle.recheck_sheet.specs.Sheet.{blankOf, cleared, withKind, withEffects, withCapacities, changedBy};
 use recheck_bytes::byte_at;
 use recheck_bytes::index_at;
 use recheck_bytes::pair_at;
@@ -15,11 +19,15 @@ pub struct WorkingSheet {
     pub capacities: [u16; 48],
 }
 
-pub fn fresh() -> WorkingSheet {
+pub fn fresh() -> WorkingSheet
+    ensures { λ r. ⌜ r ≡ blankOf 1 0 0 ⌝ }
+{
     blank(1, 0, 0)
 }
 
-fn blank(method: u8, live: u8, zone: u8) -> WorkingSheet {
+fn blank(method: u8, live: u8, zone: u8) -> WorkingSheet
+    ensures { λ r. ⌜ r ≡ blankOf method live zone ⌝ }
+{
     WorkingSheet {
         method: method,
         live: live,
@@ -30,21 +38,36 @@ fn blank(method: u8, live: u8, zone: u8) -> WorkingSheet {
     }
 }
 
+// The effects with the 48 from a position on set to 0.
+fn cleared(effects: [u16; 1536], at: usize) -> [u16; 1536]
+    requires { ⌜ at + 48 ≤ 1536 ⌝ }
+    ensures { λ r. ⌜ r ≡ cleared effects at 48 ⌝ }
+{
+    let mut left = effects;
+    let mut i: usize = 0;
+    while i < 48 {
+        left[at + i] = 0;
+        i += 1;
+    }
+    left
+}
+
 // The sheet with the place's kind set and its effects at every station 0: so for filling and for emptying alike.
-fn with_kind(w: WorkingSheet, case: usize, kind: u8) -> WorkingSheet {
+fn with_kind(w: WorkingSheet, case: usize, kind: u8) -> WorkingSheet
+    ensures { λ r. ⌜ r ≡ withKind w case kind ⌝ }
+{
     let mut sheet = w;
     let place = case % 32;
     sheet.kinds[place] = kind;
-    let mut i: usize = 0;
-    while i < 48 {
-        let at = place * 48 + i;
-        sheet.effects[at] = 0;
-        i += 1;
-    }
+    let effects = w.effects;
+    let zeroed = cleared(effects, place * 48);
+    sheet.effects = zeroed;
     sheet
 }
 
-fn with_effects(w: WorkingSheet, field: &[u8]) -> WorkingSheet {
+fn with_effects(w: WorkingSheet, field: &[u8]) -> WorkingSheet
+    ensures { λ r. ⌜ r ≡ withEffects w (now (field .entry)) ⌝ }
+{
     let mut sheet = w;
     let at = index_at(field, 3) % 32 * 48 + index_at(field, 4) % 16 * 3;
     let second = at + 1;
@@ -55,7 +78,9 @@ fn with_effects(w: WorkingSheet, field: &[u8]) -> WorkingSheet {
     sheet
 }
 
-fn with_capacities(w: WorkingSheet, field: &[u8]) -> WorkingSheet {
+fn with_capacities(w: WorkingSheet, field: &[u8]) -> WorkingSheet
+    ensures { λ r. ⌜ r ≡ withCapacities w (now (field .entry)) ⌝ }
+{
     let mut sheet = w;
     let at = index_at(field, 3) % 16 * 3;
     let second = at + 1;
@@ -67,13 +92,24 @@ fn with_capacities(w: WorkingSheet, field: &[u8]) -> WorkingSheet {
 }
 
 // The sheet after an accepted field of tags 01 to 05.
-pub fn changed(w: WorkingSheet, field: &[u8]) -> WorkingSheet {
-    match byte_at(field, 0) {
-        1 => blank(byte_at(field, 3), byte_at(field, 4), byte_at(field, 5)),
-        2 => with_kind(w, index_at(field, 3), byte_at(field, 4)),
-        3 => with_effects(w, field),
-        4 => with_kind(w, index_at(field, 3), 0),
-        5 => with_capacities(w, field),
-        _ => w,
+pub fn changed(w: WorkingSheet, field: &[u8]) -> WorkingSheet
+    ensures { λ r. ⌜ r ≡ changedBy (byteAt (now (field .entry)) 0) w (now (field .entry)) ⌝ }
+{
+    let tag = byte_at(field, 0);
+    if tag == 1 {
+        return blank(byte_at(field, 3), byte_at(field, 4), byte_at(field, 5));
     }
+    if tag == 2 {
+        return with_kind(w, index_at(field, 3), byte_at(field, 4));
+    }
+    if tag == 3 {
+        return with_effects(w, field);
+    }
+    if tag == 4 {
+        return with_kind(w, index_at(field, 3), 0);
+    }
+    if tag == 5 {
+        return with_capacities(w, field);
+    }
+    w
 }
