@@ -2,7 +2,8 @@
 
 ghost use mathlib.Core.Path.{_≡_};
 ghost use Prim.Native.Nat.{_+_, _<_};
-ghost use Rattle.recheck_bytes.specs.Bytes.{byteAt, pairAt, numberAt};
+ghost use lib.ListN.{length};
+ghost use Rattle.recheck_bytes.specs.Bytes.{byteAt, pairAt, numberAt, sameUpTo, filledUpTo};
 
 fn wide(x: u8) -> u64
     ensures { λ r. ⌜ r ≡ x ⌝ }
@@ -49,4 +50,32 @@ pub fn number_at(s: &[u8], at: usize, width: usize) -> u64
         i += 1;
     }
     number
+}
+
+// Whether the bytes from a position on begin with these.
+pub fn same_at(s: &[u8], at: usize, front: &[u8]) -> bool
+    requires { ⌜ at < 1000000 ⌝ }
+    requires { ⌜ length (now front) < 1000000 ⌝ }
+    ensures { λ r. ⌜ r ≡ sameUpTo (now (front .entry)) (now (s .entry)) at (length (now (front .entry))) ⌝ }
+{
+    let mut same = true;
+    let mut i: usize = 0;
+    while i < front.len() {
+        same = same & (byte_at(front, i) == byte_at(s, at + i));
+        i += 1;
+    }
+    same
+}
+
+// Whether the bytes from a position to the end are all `byte`, which an output holds before a call.
+pub fn filled_from(s: &[u8], from: usize, byte: u8) -> bool
+    ensures { λ r. ⌜ r ≡ filledUpTo byte (now (s .entry)) from (length (now (s .entry))) ⌝ }
+{
+    let mut filled = true;
+    let mut i: usize = 0;
+    while i < s.len() {
+        filled = filled & ((i < from) | (byte_at(s, i) == byte));
+        i += 1;
+    }
+    filled
 }
