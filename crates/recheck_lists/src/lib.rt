@@ -2,7 +2,6 @@
 
 ghost use Prim.Native.Nat.{_<_};
 ghost use lib.ListN.{length};
-use frames_c::Ran;
 use recheck_bytes::filled_from;
 use recheck_bytes::same_at;
 
@@ -43,10 +42,4 @@ pub fn lists_agree(state: &[u8], field: &[u8], answer: &[u8], after: &[u8]) -> b
     requires { ⌜ length (now after) < 1000000 ⌝ }
 {
     answer_agrees(state, field, answer) & run_agrees(state, field, answer, after)
-}
-
-// All fields in one call, from a fresh sheet.
-pub fn run_whole(fields: &[u8], out: &mut [u8]) -> Ran {
-    let mut saved = [0u8; 5958];
-    frames_c::frames_run(b"", fields, out, &mut saved)
 }

@@ -151,47 +151,6 @@ fn with_reading(t: Tally, ok: bool, looked: bool, skipped: bool, refused: bool) 
     with_difference(u, number)
 }
 
-// Saving, the methods by value and the lists of one field, given the second checker's saved forms before and after the field.
-fn forms_agree(
-    sheet: Sheet,
-    next: Sheet,
-    field: &[u8],
-    answer: &[u8],
-    old: &[u8],
-    new: &[u8],
-) -> bool
-    requires { ⌜ InRange sheet ⌝ }
-{
-    if 37 < answer.len() {
-        return false;
-    }
-    if 5958 < new.len() {
-        return false;
-    }
-    let saved = recheck_methods::saved_agrees(next, new);
-    let methods = recheck_methods::method_agrees(sheet, field, answer, new);
-    let lists = recheck_lists::lists_agree(old, field, answer, new);
-    saved & methods & lists
-}
-
-// Whether the library's other calls agree with the reader.
-fn calls_agree(
-    before: WorkingSheet,
-    after: WorkingSheet,
-    sheet: Sheet,
-    next: Sheet,
-    field: &[u8],
-    answer: &[u8],
-) -> bool
-    requires { ⌜ InRange sheet ⌝ }
-{
-    let mut old = [0u8; 5958];
-    let n = recheck_saving::put_saved(before, &mut old);
-    let mut new = [0u8; 5958];
-    let m = recheck_saving::put_saved(after, &mut new);
-    forms_agree(sheet, next, field, answer, &old[0..n], &new[0..m])
-}
-
 // Whether the answer stands at its place in those of one list. The list ends with its first refusal 3.
 fn list_agrees(list: &[u8], at: usize, answer: &[u8]) -> bool
     requires { ⌜ length (now list) < 1000000 ⌝ }
@@ -224,7 +183,7 @@ fn checked(
     let t = run.tally;
     let j = recheck_answers::check_answer(working, field, answer);
     let after = j.working;
-    let calls = calls_agree(working, after, sheet, next, field, answer);
+    let calls = recheck_calls::calls_agree(working, after, sheet, next, field, answer);
     let listed = list_agrees(list, run.listed, answer);
     let ok = j.ok & calls & listed & clean;
     Run {
@@ -337,7 +296,8 @@ fn run_all(input: &[u8], list: &[u8]) -> Tally
 // The fields in one list, before they are read one after the other.
 fn run_both(input: &[u8]) -> Tally {
     let mut answers = [0u8; 131072];
-    let r = recheck_lists::run_whole(input, &mut answers);
+    let mut saved = [0u8; 5958];
+    let r = frames_c::frames_run(b"", input, &mut answers, &mut saved);
     let written = r.written;
     if written <= 131072 {
         return run_all(input, &answers[0..written]);
