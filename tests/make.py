@@ -1,11 +1,12 @@
 #!/usr/bin/env python3
-"""Makes the stored input and output of `frames` in crates/frames, and further streams for compare.py in made/, beside this file.
+"""Makes the stored input and output of `frames` in crates/frames; compare.py takes further streams from here.
 The program is not needed: expected bytes are the scope document's, or are worked out by enumerating every admissible combination
 (model.py, made apart from the library)."""
 import os
 import random
 import struct
 import model as m
+from stations import STATIONS
 from model import D, F, HP, HV, L, LR, S, R, W, E, FA, f, effects, caps
 
 h = bytes.fromhex
@@ -121,9 +122,10 @@ CUT = {  # each ends with a 3; P2's bytes after a length above 60,000 are not an
 
 
 def refusals():
-    """Point 2 but for the 3s: on the sheet that the service starts with, then each small input."""
-    b = f(4, 0) + f(7, 0) + f(6, 0, 0) + f(3, 0, 0, effects(1, 1, 1))
-    no = [12, 13, 12]
+    """Point 2 but for the 3s: on the sheet that the service starts with, which is filled and looked at before any tag 01, then each
+    small input."""
+    b = f(4, 0) + f(7, 0) + f(6, 0, 0) + f(3, 0, 0, effects(1, 1, 1)) + b''.join(m.before_any_settings())
+    no = [12, 13, 12, 13]
     small = [('7F0000', 1), ('0400020000', 2), ('010003030000', 4), ('04000120', 5), ('07000110', 6), ('020002000C', 7), ('0600020003', 8),
              ('0300080000271100000000', 9), ('05000700000000010001', 10), ('04000100', 12), ('07000100', 13)]
     for s, n in small:
@@ -254,7 +256,7 @@ def unique_station(values, cap):
     return rows_seen
 
 
-STATIONS = []  # (station, effects, capacities), each with a unique combination at every look; found by search()
+# STATIONS: (station, effects, capacities), each with a unique combination at every look; found by search()
 
 
 def search(tries, seed):
@@ -293,40 +295,71 @@ def every_setting():
     return b
 
 
-def write(path, b):
-    os.makedirs(os.path.dirname(path), exist_ok=True)
-    with open(path, 'wb') as o:
-        o.write(b)
+def groups():
+    """Two or more of each kind of which at most one may act, with effects of one sign; effects set back to 0."""
+    b = b''.join(m.together() + m.saved_forms())
+    due(b, [])
+    return b
+
+
+def long_fields():
+    """Whole fields of the greatest length: an unknown tag, a known one; the sheet stays."""
+    look = f(6, 0, 0) + f(7, 0)
+    b = FRESH + f(2, 0, D) + f(3, 0, 0, effects(50, -60, 70)) + f(5, 0, caps(100, 100, 100)) + look
+    b += f(0x7F, bytes(60000)) + look + f(1, bytes(60000)) + look
+    due(b, [1, 2])
+    return b
+
+
+POINTS = {'1_worked_exchange_p2': lambda: P2_IN, '2_each_refusal': refusals, '3_refusal_orders': orders, '4_p1_to_p10': frames_by_hand,
+          '5_methods_zones_live_options': every_setting, '6_groups': groups, '7_long_fields': long_fields}
+BUFFER = 65536  # what `frames` reads in one turn, at most
+
+
+def stored():
+    """The stored input and output: the points, the refusals first, on the sheet that the service starts with. The last field gets a 3
+    at once; what follows its header is not answered."""
+    order = sorted(POINTS, key=lambda k: (k[0] != '2', k))
+    whole = b''.join(POINTS[k]() for k in order) + f(1, bytes(60001)) + P2_IN
+    out, steps = run(whole)
+    assert steps[-1][1] == h('81000103') and len(whole) > 2 * BUFFER
+    return whole, out
+
+
+def streams():
+    """Further streams: name -> (input, output)."""
+    known = {'1_worked_exchange_p2': P2_OUT}
+    out = {k: (b, run(b)[0]) for k, b in ((k, make()) for k, make in POINTS.items())}
+    for k, b in CUT.items():
+        known['2_' + k] = (P2_OUT if b.startswith(P2_IN) else b'') + h('81000103')
+        out['2_' + k] = b, run(b)[0]
+    more = {'2_empty_input': (b'', b''),
+            '2_length_60000_unknown_tag_is_1': (f(0x7F, bytes(60000)) + P2_IN, h('81000101') + P2_OUT),
+            '2_length_60000_known_tag_is_2': (f(1, bytes(60000)) + P2_IN, h('81000102') + P2_OUT),
+            '2_length_60001_wholly_there_is_3': (P2_IN + f(2, bytes(60001)) + P2_IN, P2_OUT + h('81000103'))}
+    for k, (b, due_out) in more.items():
+        known[k] = due_out
+        out[k] = b, run(b)[0]
+    for k, due_out in known.items():
+        assert out[k][1] == due_out, k
+    return out
+
+
+FILES = [os.path.join(HERE, '..', 'crates', 'frames', name) for name in ('stdin', 'stdout')]
+
+
+def read_stored():
+    """The stored files as they stand, which must be the ones made here."""
+    files = tuple(open(path, 'rb').read() for path in FILES)
+    assert files == stored(), 'crates/frames/stdin and stdout are not those of make.py'
+    return files
 
 
 def main():
-    import stations
-    STATIONS.extend(stations.STATIONS)
-    crate = os.path.join(HERE, '..', 'crates', 'frames')
-    points = {'1_worked_exchange_p2': P2_IN, '2_each_refusal': refusals(), '3_refusal_orders': orders(), '4_p1_to_p10': frames_by_hand(),
-              '5_methods_zones_live_options': every_setting()}
-    assert run(P2_IN)[0] == P2_OUT
-    end = h('01EA61') + P2_IN  # a 3 at once; what follows is not answered
-    whole = points['2_each_refusal'] + b''.join(points[k] for k in sorted(points) if k[0] != '2') + end
-    write(os.path.join(crate, 'stdin'), whole)
-    write(os.path.join(crate, 'stdout'), run(whole)[0])
-    streams = {k: (b, None) for k, b in points.items()}
-    streams['1_worked_exchange_p2'] = (P2_IN, P2_OUT)
-    for k, b in CUT.items():
-        streams['2_' + k] = (b, (P2_OUT if b.startswith(P2_IN) else b'') + h('81000103'))
-    streams['2_empty_input'] = (b'', b'')
-    streams['2_length_60000_unknown_tag_is_1'] = (f(0x7F, bytes(60000)) + P2_IN, h('81000101') + P2_OUT)
-    streams['2_length_60000_known_tag_is_2'] = (f(1, bytes(60000)) + P2_IN, h('81000102') + P2_OUT)
-    for k, (b, known) in sorted(streams.items()):
-        for key in STATS:
-            STATS[key] = 0
-        ROWS_SEEN.clear()
-        out, steps = run(b)
-        assert known is None or out == known, k
-        write(os.path.join(HERE, 'made', k + '.stdin'), b)
-        write(os.path.join(HERE, 'made', k + '.stdout'), out)
-        print('%-45s %5d readings %6d in %6d out; %d combinations named, %d unique, %d by the tie rule; rows %s'
-              % (k, len(steps), len(b), len(out), STATS['looks'], STATS['unique'], STATS['tied'], sorted(ROWS_SEEN)))
+    for path, b in zip(FILES, stored()):
+        with open(path, 'wb') as o:
+            o.write(b)
+    print([os.path.getsize(path) for path in FILES], 'bytes;', STATS, 'rows', sorted(ROWS_SEEN))
 
 
 if __name__ == '__main__':

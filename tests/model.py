@@ -296,6 +296,46 @@ def generate(rng, looks=200):
     return out
 
 
+def before_any_settings():
+    """Fields for a sheet that no tag 01 has set: method 1, live option 0, zone 0. Option 1 would halve L in row 3, zone 1 or 2 would
+    let Fa act, and method 2 has other rows."""
+    out = [f(6, 0, 0), f(7, 0)]
+    for c, (k, e) in enumerate([(D, (10, -20, 0)), (L, (300, 50, -7)), (LR, (200, 40, 0)), (FA, (500, -900, 30)), (W, (20, -30, 0))]):
+        out += [f(2, c, k), f(3, c, 3, effects(*e))]
+    return out + [f(5, 3, caps(700, 800, 900))] + [f(6, 3, k) for k in range(3)] + [f(7, 3)]
+
+
+# Two or more of each kind of which at most one may act, all with effects of one sign: two at once would show.
+TOGETHER = [[D, W, W], [D, E, E], [D, FA, FA, W], [LR, S, R], [D, LR, LR, S, S, R, R], [W, W, E, E, FA, FA], [D, L, S, S, E, E]]
+
+
+def together():
+    out = []
+    for method, zone in [(1, 0), (1, 1), (1, 2), (2, 0), (2, 1), (2, 2)]:
+        for kinds in TOGETHER:
+            for sign in (1, -1):
+                out.append(f(1, method, zone % 2, zone))
+                for c, k in enumerate(kinds):
+                    v = sign * (100 + 10 * c)
+                    out += [f(2, c, k), f(3, c, 8, effects(v, 2 * v, -v))]
+                out += [f(5, 8, caps(300, 500, 400))] + [f(6, 8, k) for k in range(3)] + [f(7, 8)]
+    return out
+
+
+def saved_forms():
+    """Stations with one effect of three other than 0, and effects set back to 0."""
+    out = [f(1, 2, 1, 2), f(2, 31, HP), f(2, 0, HV), f(2, 5, R)]
+    for st, e in enumerate([(7, 0, 0), (0, 7, 0), (0, 0, 7), (0, 0, 0), (-1, 0, 0), (0, -10000, 0), (0, 0, 10000), (-10000, 10000, -1)]):
+        out += [f(3, 31, 15 - st, effects(*e)), f(3, 0, st, effects(*e))]
+    out += [f(3, 31, 15, effects(0, 0, 0)), f(5, 15, caps(1, 10000, 256)), f(5, 0, caps(255, 1, 9999)), f(4, 0), f(2, 0, S)]
+    return out + [f(3, 0, 7, effects(0, 0, 0)), f(5, 15, caps(2, 2, 2)), f(6, 15, 0), f(7, 15)]
+
+
+def long_fields():
+    """Whole fields of the greatest length, refused with 1 and 2; one of a length above it that is wholly there, refused with 3."""
+    return [f(0x7F, bytes(60000)), f(1, bytes(60000)), f(6, 0, 0), f(2, bytes(60001))]
+
+
 def check_worked(rng):
     """The frames worked by hand give the numbers of the paper; P2's answer, which is unique, gives its bytes."""
     for i, (fields, want, other) in enumerate(worked()):
@@ -320,15 +360,15 @@ def main():
     here = os.path.dirname(os.path.abspath(__file__))
     rng = random.Random(20)
     check_worked(rng)
-    # The last reading is cut short: a service stops there.
-    fields = generate(rng) + [bytes.fromhex('01000301')]
+    # The last readings get a 3, where a service stops: a length above 60,000, and a field that is cut short.
+    fields = before_any_settings() + generate(rng) + together() + saved_forms() + long_fields() + [bytes.fromhex('01000301')]
     s, answers = Sheet(), []
     for b in fields:
         s, a = serve(s, b, rng)
         assert len(s.kind) <= 7
         answers.append(a)
     raw = b''.join(fields)
-    assert len(raw) < 60000, len(raw)
+    assert len(raw) < 262144 and len(fields) * 37 < 131072, (len(raw), len(fields))  # the buffers of recheck_run
     with open(os.path.join(here, '..', 'crates', 'recheck_run', 'stdin'), 'wb') as o:
         o.write(raw)
     tags = [a[0] for a in answers]

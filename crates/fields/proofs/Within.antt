@@ -22,6 +22,7 @@ use Rattle.headers.specs.declared.Header.the-variants.{Field, Short}
 use Rattle.fields.specs.declared.Reading.{Reading}
 use Rattle.headers.specs.Headers.{headerOf}
 use Rattle.fields.specs.Field.{reading, refusedWith, readHeader, readField}
+use Rattle.answers.proofs.Room.{answer-fits}
 use Rattle.answers.specs.Answers.{extremeBytes, utilisedBytes, answerBytes, answerRoom}
 use Rattle.fields.specs.Readings.{FieldRead, ReadWithin}
 use Rattle.headers.proofs.Whole.{header-fits}

@@ -1,14 +1,18 @@
 // Runs the library's reader over the stored fields on standard input, passes every field and its answer to the second
-// checker (crate recheck), and writes a summary.
-use recheck::Model;
+// checker (crates recheck_bytes to recheck_answers), compares the library's other calls with the reader's answer and the
+// second checker's saved form, and writes a summary.
+use recheck_bytes::filled_from;
+use recheck_bytes::same_at;
+use recheck_sheet::WorkingSheet;
 use sheet::Answer;
 use sheet::Sheet;
 use std::num::wrapping_add_u64;
+use std::num::wrapping_add_usize;
 ghost use mathlib.Core.Path.{_≡_};
 ghost use Prim.Native.Nat.{_≤_, _<_};
 ghost use lib.ListN.{length};
 ghost use Rattle.sheet.specs.Range.{InRange};
-ghost use Rattle.recheck_run.specs.Place.{Place};
+ghost use Rattle.recheck_run.specs.Place.{Place, Within};
 
 // The output holds this byte before each reading, so that a byte written past the answer is seen.
 const UNWRITTEN: u8 = 0xEE;
@@ -25,11 +29,13 @@ pub struct Tally {
     pub first: u64,
 }
 
-// The reader's sheet, the second checker's, and the place of the next field.
+// The reader's sheet, the second checker's working sheet, the place of the next field, and that of its answer among those of
+// the fields in one list.
 pub struct Run {
     pub sheet: Sheet,
-    pub model: Model,
+    pub working: WorkingSheet,
     pub start: usize,
+    pub listed: usize,
     pub tally: Tally,
 }
 
@@ -42,7 +48,7 @@ fn fresh_sheet() -> Sheet
 // The bytes that a reading of this input must consume, by the header alone: all of them where the field is cut short.
 fn field_size(input: &[u8]) -> usize {
     let n = input.len();
-    let body = recheck::bytes::pair_at(input, 1) as usize;
+    let body = recheck_bytes::pair_at(input, 1) as usize;
     if n < 3 {
         return n;
     }
@@ -55,16 +61,12 @@ fn field_size(input: &[u8]) -> usize {
     3 + body
 }
 
-// Whether the bytes from a place on are as they were before the reading.
-fn unwritten(out: &[u8], from: usize) -> bool {
-    let mut i = from;
-    while i < out.len() {
-        if out[i] != UNWRITTEN {
-            return false;
-        }
-        i += 1;
-    }
-    true
+// Where a reading's bytes end: a field of length 60,001 that is wholly there has 60,004, and no reading is given more.
+fn reading_end(start: usize, n: usize) -> usize
+    requires { ⌜ start ≤ n ⌝ }
+    ensures { λ r. ⌜ Within start n r ⌝ }
+{
+    if n - start < 60004 { n } else { start + 60004 }
 }
 
 // The counts wrap: no run comes near 2^64 readings, and the proof needs no bound.
@@ -110,14 +112,18 @@ fn read_short(run: Run, input: &[u8], out: &mut [u8]) -> Run
     let start = run.start;
     let r = fields::read_field(sheet, &input[start..], out);
     let answer = r.answer;
-    let ok = is_no_room(answer) & (r.consumed == 0) & (r.written == 0) & unwritten(out, 0);
+    let ok = is_no_room(answer)
+        & (r.consumed == 0)
+        & (r.written == 0)
+        & filled_from(out, 0, UNWRITTEN);
     let next = r.sheet;
-    let model = run.model;
+    let working = run.working;
     let t = run.tally;
     Run {
         sheet: next,
-        model,
+        working,
         start,
+        listed: run.listed,
         tally: with_short(t, ok),
     }
 }
@@ -140,43 +146,89 @@ fn with_reading(t: Tally, ok: bool, looked: bool, skipped: bool, refused: bool) 
     with_difference(u, number)
 }
 
-// One reading with room for every answer, and what the second checker says of it.
-fn read_and_judge(run: Run, input: &[u8], out: &mut [u8]) -> Run
-    requires { ⌜ Place (run .sheet) (run .start) (now input) ⌝ }
-    ensures { λ r. ⌜ Place (r .sheet) (r .start) (now (input .entry)) ⌝ }
+// Whether the answer stands at its place in those of one list. The list ends with its first refusal 3.
+fn list_agrees(list: &[u8], at: usize, answer: &[u8]) -> bool
+    requires { ⌜ length (now list) < 1000000 ⌝ }
 {
+    if list.len() <= at {
+        return true;
+    }
+    if 37 < answer.len() {
+        return false;
+    }
+    same_at(list, at, answer)
+}
+
+// The run after a reading of this field with this answer: what the second checker and the other calls say of it.
+fn checked(
+    run: Run,
+    next: Sheet,
+    end: usize,
+    clean: bool,
+    field: &[u8],
+    list: &[u8],
+    answer: &[u8],
+) -> Run
+    requires { ⌜ InRange (run .sheet) ⌝ }
+    requires { ⌜ length (now list) < 1000000 ⌝ }
+    ensures { λ r. ⌜ (r .sheet ≡ next) × (r .start ≡ end) ⌝ }
+{
+    let working = run.working;
     let sheet = run.sheet;
-    let model = run.model;
-    let start = run.start;
-    let size = field_size(&input[start..]);
-    let r = fields::read_field(sheet, &input[start..], out);
-    let written = r.written;
-    let end = start + r.consumed;
-    let j = recheck::judge(model, &input[start..end], &out[0..written]);
-    let ok = j.ok & (r.consumed == size) & unwritten(out, written);
-    let next = r.sheet;
-    let judged = j.model;
     let t = run.tally;
+    let j = recheck_answers::check_answer(working, field, answer);
+    let after = j.working;
+    let calls = recheck_calls::calls_agree(working, after, sheet, next, field, answer);
+    let listed = list_agrees(list, run.listed, answer);
+    let ok = j.ok & calls & listed & clean;
     Run {
         sheet: next,
-        model: judged,
+        working: after,
         start: end,
+        listed: wrapping_add_usize(run.listed, answer.len()),
         tally: with_reading(t, ok, j.looked, j.skipped, j.refused),
     }
 }
 
-// Every fifth field is first read with the short output.
-fn step(run: Run, input: &[u8]) -> Run
+// One reading with room for every answer, checked.
+fn read_and_check(run: Run, input: &[u8], list: &[u8], out: &mut [u8]) -> Run
     requires { ⌜ Place (run .sheet) (run .start) (now input) ⌝ }
+    requires { ⌜ length (now list) < 1000000 ⌝ }
+    ensures { λ r. ⌜ Place (r .sheet) (r .start) (now (input .entry)) ⌝ }
+{
+    let sheet = run.sheet;
+    let start = run.start;
+    let last = reading_end(start, input.len());
+    let size = field_size(&input[start..last]);
+    let r = fields::read_field(sheet, &input[start..last], out);
+    let written = r.written;
+    let end = start + r.consumed;
+    let next = r.sheet;
+    let clean = (r.consumed == size) & filled_from(out, written, UNWRITTEN);
+    checked(
+        run,
+        next,
+        end,
+        clean,
+        &input[start..end],
+        list,
+        &out[0..written],
+    )
+}
+
+// Every fifth field is first read with the short output.
+fn step(run: Run, input: &[u8], list: &[u8]) -> Run
+    requires { ⌜ Place (run .sheet) (run .start) (now input) ⌝ }
+    requires { ⌜ length (now list) < 1000000 ⌝ }
     ensures { λ r. ⌜ Place (r .sheet) (r .start) (now (input .entry)) ⌝ }
 {
     let mut out = [UNWRITTEN; 64];
     if run.tally.readings % 5 == 0 {
         let mut short = [UNWRITTEN; 36];
         let tried = read_short(run, input, &mut short);
-        return read_and_judge(tried, input, &mut out);
+        return read_and_check(tried, input, list, &mut out);
     }
-    read_and_judge(run, input, &mut out)
+    read_and_check(run, input, list, &mut out)
 }
 
 // The turns left after one: none where the input is at its end.
@@ -192,7 +244,7 @@ fn first_run() -> Run
     ensures { λ r. ⌜ r .start ≡ 0 ⌝ }
 {
     let sheet = fresh_sheet();
-    let model = recheck::fresh();
+    let working = recheck_sheet::fresh();
     let tally = Tally {
         readings: 0,
         looks: 0,
@@ -204,21 +256,48 @@ fn first_run() -> Run
     };
     Run {
         sheet,
-        model,
+        working,
         start: 0,
+        listed: 0,
         tally,
     }
 }
 
+// Whether every answer of the list was met; a list that is refused has none.
+fn with_list(t: Tally, listed: usize, n: usize) -> Tally {
+    if n == 0 {
+        return with_difference(t, 1);
+    }
+    if listed < n {
+        return with_difference(t, t.readings);
+    }
+    t
+}
+
 // Reads the fields one after the other. Each has at least one byte, so there are no more turns than bytes.
-fn run_all(input: &[u8]) -> Tally {
+fn run_all(input: &[u8], list: &[u8]) -> Tally
+    requires { ⌜ length (now list) < 1000000 ⌝ }
+{
     let mut run = first_run();
     let mut left = input.len();
     while left > 0 {
-        run = step(run, input);
+        run = step(run, input, list);
         left = remaining(run.start < input.len(), left);
     }
-    run.tally
+    let t = run.tally;
+    with_list(t, run.listed, list.len())
+}
+
+// The fields in one list, before they are read one after the other.
+fn run_both(input: &[u8]) -> Tally {
+    let mut answers = [0u8; 131072];
+    let mut saved = [0u8; 5958];
+    let r = frames_c::frames_run(b"", input, &mut answers, &mut saved);
+    let written = r.written;
+    if written <= 131072 {
+        return run_all(input, &answers[0..written]);
+    }
+    run_all(input, b"")
 }
 
 fn put_count(n: u64, words: &[u8]) {
@@ -241,8 +320,8 @@ fn summary(t: Tally) {
 
 // The stored input is smaller than the buffer.
 fn main() {
-    let mut buffer = io::large_buffer();
+    let mut buffer = [0u8; 262144];
     let n = io::read_full(0, &mut buffer);
-    let t = run_all(&buffer[..n]);
+    let t = run_both(&buffer[..n]);
     summary(t);
 }

@@ -19,8 +19,8 @@ read-field-requires c κs = search needs
 is-no-room-requires : tie.Need-is-no-room-requires
 is-no-room-requires c κs = search needs
 
-unwritten-requires : tie.Need-unwritten-requires
-unwritten-requires c κs = search needs
+filled-from-requires : tie.Need-filled-from-requires
+filled-from-requires c κs = search needs
 
 with-short-requires : tie.Need-with-short-requires
 with-short-requires c κs = search needs
@@ -40,7 +40,7 @@ read-short-spec =
     part-read-field-end
     read-field-requires
     is-no-room-requires
-    unwritten-requires
+    filled-from-requires
     with-short-requires
     same-length
     returns)

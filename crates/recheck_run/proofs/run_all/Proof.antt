@@ -1,15 +1,15 @@
 -- Each turn keeps the sheet in range and its place within the input, and leaves fewer turns.
 -- Assumes nothing.
-use borrow.Author.Needs.{needs}
 use Rattle.recheck_run.specs.Place.{Place}
+use borrow.Author.Needs.{needs}
 use Rattle.recheck_run.proofs.run_all.Statement.{statement}
 use Rattle.recheck_run.proofs.run_all.Tie as tie
 
 abbrev Inv-loop : tie.InvT-loop
-Inv-loop input run₀ left₀ run left = Place (run .sheet) (run .start) input
+Inv-loop input list run₀ left₀ run left = Place (run .sheet) (run .start) input
 
 abbrev μ-loop : tie.MeasureT-loop
-μ-loop input run₀ left₀ run left = left
+μ-loop input list run₀ left₀ run left = left
 
 first-run-requires : tie.Need-first-run-requires Inv-loop μ-loop
 first-run-requires c κs = search needs
@@ -29,6 +29,9 @@ loop-less c = search needs
 loop-again : tie.Need-loop-again Inv-loop μ-loop
 loop-again c = search needs
 
+with-list-requires : tie.Need-with-list-requires Inv-loop μ-loop
+with-list-requires c κs = search needs
+
 returns : tie.Need-returns Inv-loop μ-loop
 returns c = search needs
 
@@ -44,4 +47,5 @@ run-all-spec =
     remaining-requires
     loop-less
     loop-again
+    with-list-requires
     returns)

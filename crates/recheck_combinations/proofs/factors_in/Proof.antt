@@ -1,0 +1,77 @@
+-- No factor is above 2,000, at the places passed and at those still 0; the measure is what is left.
+-- Assumes nothing.
+use Prim.Native.Nat.{ℕ, zero, suc, _≤_, _-_}
+use mathlib.Core.List.{List, [], _∷_}
+use lib.ListN.{getD, set}
+use native.Mathlib.Omega.{arith}
+use borrow.Author.Needs.{needs}
+use Rattle.recheck_combinations.specs.Acting.{Factors}
+use Rattle.recheck_combinations.proofs.factors_in.Statement.{statement}
+use Rattle.recheck_combinations.proofs.factors_in.Tie as tie
+
+abbrev zeros : ℕ → List ℕ
+zeros zero = []
+zeros (suc n) = 0 ∷ zeros n
+
+none : (n : ℕ) → Factors (zeros n)
+none zero k = omega arith
+none (suc n) zero = omega arith
+none (suc n) (suc k) = none n k
+
+stored : (xs : List ℕ) (i v : ℕ) → Factors xs → v ≤ 2000 → Factors (set xs i v)
+stored [] i v f h k = f k
+stored (x ∷ xs) zero v f h zero = h
+stored (x ∷ xs) zero v f h (suc k) = f (suc k)
+stored (x ∷ xs) (suc i) v f h zero = f zero
+stored (x ∷ xs) (suc i) v f h (suc k) = stored xs i v (λ j. f (suc j)) h k
+
+abbrev Inv-loop : tie.InvT-loop
+Inv-loop kinds row option factors₀ case₀ factors case = (case ≤ 32) × Factors factors
+
+abbrev μ-loop : tie.MeasureT-loop
+μ-loop kinds row option factors₀ case₀ factors case = 32 - case
+
+loop-holds : tie.Need-loop-holds Inv-loop μ-loop
+loop-holds c = (search needs, none 32)
+
+element-copy-out-factor : tie.Need-element-copy-out-factor Inv-loop μ-loop
+element-copy-out-factor c = search needs
+
+factor-requires : tie.Need-factor-requires Inv-loop μ-loop
+factor-requires c κs = search needs
+
+mul-factors : tie.Need-mul-factors Inv-loop μ-loop
+mul-factors c = search needs
+
+array-write-factors : tie.Need-array-write-factors Inv-loop μ-loop
+array-write-factors c = search needs
+
+add-case : tie.Need-add-case Inv-loop μ-loop
+add-case c = search needs
+
+loop-less : tie.Need-loop-less Inv-loop μ-loop
+loop-less c = search needs
+
+loop-again : tie.Need-loop-again Inv-loop μ-loop
+loop-again c =
+    let l = c .before .before .before .loop in
+    (search needs, stored (l .factors) (l .case) (c .factor .result) (l .inv .1) (c .factor .ensures))
+
+returns : tie.Need-returns Inv-loop μ-loop
+returns c = c .before .loop .inv .1
+
+pub factors-in-spec : {M : Type 1} → statement M
+factors-in-spec =
+    tie.close
+    (tie.spec
+    Inv-loop
+    μ-loop
+    loop-holds
+    element-copy-out-factor
+    factor-requires
+    mul-factors
+    array-write-factors
+    add-case
+    loop-less
+    loop-again
+    returns)

@@ -1,0 +1,31 @@
+-- Which sets of cases may act and be low in a row. Sets of cases are numbers, case k being bit k.
+use Prim.Native.Nat.{ℕ, _-_, _≤_}
+use mathlib.Core.List.{List}
+use mathlib.Core.Bool.{Bool, _&&_}
+use lib.Bits.{bitAnd, bitOr}
+use lib.Dec.{eqb}
+use lib.ListN.{getD}
+use Rattle.recheck_combinations.specs.declared.Rules.{Rules}
+
+abbrev pub within : ℕ → ℕ → Bool
+within set all = eqb (bitOr set all) all
+
+-- at most one bit: 1 less has only bits below it
+abbrev pub atMostOne : ℕ → Bool
+atMostOne set = eqb (bitAnd set (set - 1)) 0
+
+unfoldable pub mayAct : Rules → ℕ → Bool
+mayAct r acting =
+    within acting (r .may)
+    && within (r .always) acting
+    && atMostOne (bitAnd acting (r .roof))
+    && atMostOne (bitAnd acting (r .wind))
+    && atMostOne (bitAnd acting (r .earthquake))
+    && atMostOne (bitAnd acting (r .flood))
+
+abbrev pub mayBeLow : Rules → ℕ → ℕ → Bool
+mayBeLow r acting low = within low (bitAnd acting (r .hp))
+
+-- no factor is above 2,000
+abbrev pub Factors : List ℕ → Type 0
+Factors factors = (k : ℕ) → getD factors k 0 ≤ 2000

@@ -1,0 +1,162 @@
+// The library's calls on a sheet by value: each field's method and saving, compared with what the reader answered and with the
+// second program's saved form.
+
+ghost use Prim.Native.Nat.{_<_};
+ghost use lib.ListN.{length};
+ghost use Rattle.sheet.specs.Range.{InRange};
+use envelope::Extreme;
+use recheck_bytes::byte_at;
+use recheck_bytes::filled_from;
+use recheck_bytes::index_at;
+use recheck_bytes::number_at;
+use recheck_bytes::pair_at;
+use recheck_bytes::same_at;
+use saving::Saved;
+use sheet::Answer;
+use sheet::Answered;
+use sheet::Sheet;
+
+// The outputs hold this byte before each call, so that a byte written past the end is seen.
+const UNWRITTEN: u8 = 0xEE;
+
+fn is_written(s: Saved, n: usize) -> bool {
+    let Saved::Written(count) = s else {
+        return false;
+    };
+    count == n
+}
+
+fn is_no_room(s: Saved) -> bool {
+    let Saved::Refused(number) = s else {
+        return false;
+    };
+    number == 14
+}
+
+// Whether an output that is too short is refused and left as it was.
+fn refused_short(sheet: Sheet, out: &mut [u8]) -> bool {
+    let s = saving::save(sheet, out);
+    is_no_room(s) & filled_from(out, 0, UNWRITTEN)
+}
+
+// Whether the sheet is saved as these bytes, and an output of a byte less is refused.
+pub fn saved_agrees(sheet: Sheet, own: &[u8]) -> bool
+    requires { ⌜ length (now own) < 5959 ⌝ }
+{
+    let n = own.len();
+    if n == 0 {
+        return false;
+    }
+    let less = n - 1;
+    let mut short = [UNWRITTEN; 5960];
+    let refused = refused_short(sheet, &mut short[0..less]);
+    let mut out = [UNWRITTEN; 5960];
+    let s = saving::save(sheet, &mut out);
+    refused & is_written(s, n) & same_at(&out, 0, own) & filled_from(&out, n, UNWRITTEN)
+}
+
+// The method of a field whose length is its tag's.
+fn by_method(sheet: Sheet, field: &[u8]) -> Answered
+    requires { ⌜ InRange sheet ⌝ }
+{
+    let first = byte_at(field, 3);
+    let second = byte_at(field, 4);
+    match byte_at(field, 0) {
+        1 => sheet.restart(first, second, byte_at(field, 5)),
+        2 => sheet.fill(first, second),
+        3 => sheet.replace_effects(
+            first,
+            second,
+            pair_at(field, 5),
+            pair_at(field, 7),
+            pair_at(field, 9),
+        ),
+        4 => sheet.empty(first),
+        5 => sheet.replace_capacities(
+            first,
+            pair_at(field, 4),
+            pair_at(field, 6),
+            pair_at(field, 8),
+        ),
+        6 => sheet.look_extremes(first, second),
+        _ => sheet.look_utilisation(first),
+    }
+}
+
+// The length of a tag's body; one that no field has for an unknown tag.
+fn body_length(tag: u8) -> u16 {
+    match tag {
+        1 => 3,
+        2 | 6 => 2,
+        3 => 8,
+        4 | 7 => 1,
+        5 => 7,
+        _ => 65535,
+    }
+}
+
+fn is_whole(field: &[u8]) -> bool {
+    let length = pair_at(field, 1);
+    (length == body_length(byte_at(field, 0))) & (field.len() == 3 + length as usize)
+}
+
+// An extreme against its 17 bytes.
+fn extreme_is(e: Extreme, answer: &[u8], at: usize) -> bool
+    requires { ⌜ at < 100 ⌝ }
+{
+    let value = wire::bits_long(e.value) == number_at(answer, at, 8);
+    let row = e.row == index_at(answer, at + 8);
+    let acting = e.acting as u64 == number_at(answer, at + 9, 4);
+    let low = e.low as u64 == number_at(answer, at + 13, 4);
+    value & row & acting & low
+}
+
+fn extremes_are(e: envelope::Extremes, answer: &[u8]) -> bool {
+    let header = (answer.len() == 37) & (number_at(answer, 0, 3) == 0x860022);
+    let maximum = e.maximum;
+    let minimum = e.minimum;
+    header & extreme_is(maximum, answer, 3) & extreme_is(minimum, answer, 20)
+}
+
+fn utilisation_is(u: envelope::Utilised, answer: &[u8]) -> bool {
+    let header = (answer.len() == 29) & (number_at(answer, 0, 3) == 0x87001A);
+    let share = (u.numerator == number_at(answer, 3, 8))
+        & (u.denominator == number_at(answer, 11, 8));
+    let verdict = u.pass == (byte_at(answer, 19) == 1);
+    let row = u.row == index_at(answer, 20);
+    let acting = u.acting as u64 == number_at(answer, 21, 4);
+    let low = u.low as u64 == number_at(answer, 25, 4);
+    header & share & verdict & row & acting & low
+}
+
+fn refusal_is(n: u8, answer: &[u8]) -> bool {
+    (answer.len() == 4) & (number_at(answer, 0, 3) == 0x810001) & (byte_at(answer, 3) == n)
+}
+
+fn accepted_is(answer: &[u8]) -> bool {
+    (answer.len() == 3) & (number_at(answer, 0, 3) == 0x800000)
+}
+
+fn answer_is(a: Answer, answer: &[u8]) -> bool {
+    match a {
+        Answer::Accepted => accepted_is(answer),
+        Answer::Extremes(e) => extremes_are(e, answer),
+        Answer::Utilisation(u) => utilisation_is(u, answer),
+        Answer::Refused(n) => refusal_is(n, answer),
+    }
+}
+
+// Whether the field's method answers as the reader did and leaves the sheet whose saved form is given. A field whose length is
+// not its tag's has no method.
+pub fn method_agrees(sheet: Sheet, field: &[u8], answer: &[u8], own: &[u8]) -> bool
+    requires { ⌜ InRange sheet ⌝ }
+    requires { ⌜ length (now own) < 5959 ⌝ }
+{
+    if !is_whole(field) {
+        return true;
+    }
+    let r = by_method(sheet, field);
+    let a = r.answer;
+    let after = r.sheet;
+    answer_is(a, answer) & saved_agrees(after, own)
+}

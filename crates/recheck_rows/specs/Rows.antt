@@ -1,0 +1,20 @@
+-- Which rows a sheet opens, and the low factor. Flood rows come beside the plain ones.
+use Prim.Native.Nat.{ℕ}
+use mathlib.Core.Bool.{Bool, cond, _&&_, _||_}
+use lib.Dec.{eqb, leb}
+
+abbrev pub between : ℕ → ℕ → ℕ → Bool
+between n first last = leb first n && leb n last
+
+-- the plain rows, those of zone 1 and those of zone 2
+unfoldable pub strengthOpen : ℕ → ℕ → Bool
+strengthOpen row zone = between row 1 8 || between row 9 10 && eqb zone 1 || between row 11 12 && eqb zone 2
+
+unfoldable pub allowableOpen : ℕ → ℕ → Bool
+allowableOpen row zone = between row 21 30 || between row 31 35 && eqb zone 1 || between row 36 40 && eqb zone 2
+
+abbrev pub isOpen : ℕ → ℕ → ℕ → Bool
+isOpen row method zone = cond (eqb method 1) (strengthOpen row zone) (allowableOpen row zone)
+
+abbrev pub lowFactor : ℕ → ℕ
+lowFactor method = cond (eqb method 1) 900 600

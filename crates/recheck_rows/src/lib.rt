@@ -1,0 +1,182 @@
+// The lines of the standard, kind by kind: which rows a sheet opens, and each kind's factor in a row, in thousandths.
+
+ghost use mathlib.Core.Path.{_≡_};
+ghost use Prim.Native.Nat.{_≤_};
+ghost use Rattle.recheck_rows.specs.Rows.{between, strengthOpen, allowableOpen, isOpen, lowFactor};
+
+fn between(n: u8, first: u8, last: u8) -> bool
+    ensures { λ r. ⌜ r ≡ between n first last ⌝ }
+{
+    (first <= n) & (n <= last)
+}
+
+fn strength_open(row: u8, zone: u8) -> bool
+    ensures { λ r. ⌜ r ≡ strengthOpen row zone ⌝ }
+{
+    between(row, 1, 8) | (between(row, 9, 10) & (zone == 1)) | (between(row, 11, 12) & (zone == 2))
+}
+
+fn allowable_open(row: u8, zone: u8) -> bool
+    ensures { λ r. ⌜ r ≡ allowableOpen row zone ⌝ }
+{
+    between(row, 21, 30)
+        | (between(row, 31, 35) & (zone == 1))
+        | (between(row, 36, 40) & (zone == 2))
+}
+
+// Whether a sheet of this method and flood zone opens the row. Flood rows come beside the plain ones.
+pub fn open(row: u8, method: u8, zone: u8) -> bool
+    ensures { λ r. ⌜ r ≡ isOpen row method zone ⌝ }
+{
+    if method == 1 {
+        return strength_open(row, zone);
+    }
+    allowable_open(row, zone)
+}
+
+// The plain row that a flood row repeats; a plain row is its own.
+fn plain(row: u8) -> u8 {
+    match row {
+        9 | 11 => 5,
+        10 | 12 => 7,
+        31 | 36 => 25,
+        32 | 37 => 26,
+        33 | 38 => 27,
+        34 | 39 => 28,
+        35 | 40 => 29,
+        _ => row,
+    }
+}
+
+fn dead(row: u8) -> u64
+    ensures { λ r. ⌜ r ≤ 2000 ⌝ }
+{
+    match plain(row) {
+        1 => 1400,
+        2..=6 => 1200,
+        7 | 8 => 900,
+        21..=28 => 1000,
+        29 | 30 => 600,
+        _ => 0,
+    }
+}
+
+// As dead, but for rows 7 and 29, where fluid is left out.
+fn fluid(row: u8) -> u64
+    ensures { λ r. ⌜ r ≤ 2000 ⌝ }
+{
+    match plain(row) {
+        7 | 29 => 0,
+        _ => dead(row),
+    }
+}
+
+// The full factor of both kinds of earth pressure.
+fn earth(row: u8) -> u64
+    ensures { λ r. ⌜ r ≤ 2000 ⌝ }
+{
+    match plain(row) {
+        2..=8 => 1600,
+        22..=30 => 1000,
+        _ => 0,
+    }
+}
+
+// The live option halves the factor of lines 3 to 5 of the strength method, and of no other.
+fn live(row: u8, option: u8) -> u64
+    ensures { λ r. ⌜ r ≤ 2000 ⌝ }
+{
+    match plain(row) {
+        2 => 1600,
+        3 | 5 | 6 => { if option == 1 { 500 } else { 1000 } }
+        22 => 1000,
+        24 | 27 | 28 => 750,
+        _ => 0,
+    }
+}
+
+fn roof(row: u8) -> u64
+    ensures { λ r. ⌜ r ≤ 2000 ⌝ }
+{
+    match plain(row) {
+        2 | 5 => 500,
+        3 | 4 => 1600,
+        23 => 1000,
+        24 | 27 => 750,
+        _ => 0,
+    }
+}
+
+// Rows 6 and 28 take snow and no other load of the roof.
+fn snow(row: u8) -> u64
+    ensures { λ r. ⌜ r ≤ 2000 ⌝ }
+{
+    match plain(row) {
+        6 => 200,
+        28 => 750,
+        _ => roof(row),
+    }
+}
+
+// Asked of the row itself: zone 2 of the strength method halves the wind of the plain row.
+fn wind(row: u8) -> u64
+    ensures { λ r. ⌜ r ≤ 2000 ⌝ }
+{
+    match row {
+        4 => 500,
+        5 | 7 | 9 | 10 => 1000,
+        11 | 12 => 500,
+        25 | 29 | 31 | 35 | 36 | 40 => 600,
+        27 | 33 | 38 => 450,
+        _ => 0,
+    }
+}
+
+// Asked of the row itself: no flood row has earthquake.
+fn earthquake(row: u8) -> u64
+    ensures { λ r. ⌜ r ≤ 2000 ⌝ }
+{
+    match row {
+        6 | 8 => 1000,
+        26 | 30 => 700,
+        28 => 525,
+        _ => 0,
+    }
+}
+
+fn flood(row: u8) -> u64
+    ensures { λ r. ⌜ r ≤ 2000 ⌝ }
+{
+    match row {
+        9 | 10 => 2000,
+        11 | 12 => 1000,
+        31..=35 => 1500,
+        36..=40 => 750,
+        _ => 0,
+    }
+}
+
+// The full factor of a kind in a row, 0 where the kind may not act there. Kind 0 is an empty place.
+pub fn factor(row: u8, kind: u8, option: u8) -> u64
+    ensures { λ r. ⌜ r ≤ 2000 ⌝ }
+{
+    match kind {
+        1 => dead(row),
+        2 => fluid(row),
+        3 | 4 => earth(row),
+        5 => live(row, option),
+        6 | 8 => roof(row),
+        7 => snow(row),
+        9 => wind(row),
+        10 => earthquake(row),
+        11 => flood(row),
+        _ => 0,
+    }
+}
+
+// The low factor of permanent earth pressure.
+pub fn low_factor(method: u8) -> u64
+    ensures { λ r. ⌜ r ≡ lowFactor method ⌝ }
+{
+    if method == 1 { 900 } else { 600 }
+}
