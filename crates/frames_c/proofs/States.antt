@@ -9,6 +9,7 @@ use Rattle.sheet.specs.declared.Sheet.{Sheet}
 use Rattle.sheet.specs.Sheet.{freshSheet}
 use Rattle.sheet.specs.Range.{InRange}
 use Rattle.sheet.proofs.Kept.{fresh-kept}
+use Rattle.answers.specs.Answers.{answerRoom}
 use Rattle.fields.specs.Field.{readField}
 use Rattle.fields.specs.Readings.{ReadThrough, end, field}
 use Rattle.fields.proofs.Consumed.{read-consumed}
