@@ -38,7 +38,7 @@ module _ {room : ℕ} {s₀ s : Sheet} {held : List ℕ} {more : Bool} {left : �
   goes-on : 0 < left → more ≡ true
   goes-on l = ⊎-elim (λ e. e) (λ e. absurd (let z = h .over e in omega arith)) (either more)
 
-  pub serving-next : 0 < left → {out : List ℕ} {s′ : Sheet} {held′ : List ℕ} {more′ : Bool} {left′ : ℕ} → Turned room s held out s′ held′ more′ →
+  pub serving-next : 0 < left → {out : List ℕ} {taken : ℕ} {s′ : Sheet} {held′ : List ℕ} {more′ : Bool} {left′ : ℕ} → Turned room s held out taken s′ held′ more′ →
       left′ ≡ cond more′ (left - 1) 0 → Serving room s₀ s′ held′ more′ left′
   serving-next l {out} x e =
       let m = goes-on l in
