@@ -1,7 +1,7 @@
 -- One turn of the service: it hands on the answers, and holds what the fields answered leave of the bytes held before and those read
 -- after them.
 -- Assumes nothing.
-use Prim.Native.Nat.{ℕ, _+_, _-_, _≤_}
+use Prim.Native.Nat.{ℕ, _-_, _≤_}
 use mathlib.Core.Path.{_≡_, refl, sym, _∙_, ap}
 use mathlib.Core.List.{List, _++_}
 use mathlib.Core.Bool.{Bool, true, false, not, _&&_}

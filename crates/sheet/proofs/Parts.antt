@@ -12,17 +12,19 @@ use lib.Seq.{sets, sets-eq, take-all}
 use Rattle.wire.proofs.Stores.{sets-more}
 use Rattle.standard.specs.declared.Settings.{Settings}
 use Rattle.sheet.specs.declared.Sheet.{Sheet}
+use Rattle.sheet.specs.declared.Rest.{Rest}
 use Rattle.sheet.specs.declared.Answered.{Answered}
 use Rattle.sheet.specs.declared.Answer.the-variants as answer
-use Rattle.sheet.specs.Sheet.{zeros, fresh}
+use Rattle.sheet.specs.Sheet.{zeros, fresh, freshSettings, freshSheet}
 use Rattle.sheet.specs.Edits.{tried}
 use Rattle.sheet.specs.Parts.{restOf, whole}
 use Rattle.sheet.specs.Looks.{edited}
 use Rattle.sheet.proofs.Refusals.{tried-none, tried-due, answered-due}
 
-pub fresh-whole : (settings : Settings) {effects : List ℤ} → effects ≡ zeros 1536 → whole (restOf (fresh settings)) effects ≡ fresh settings
+pub fresh-whole : (settings : Settings) {rest : Rest} {effects : List ℤ} → rest ≡ restOf (fresh settings) → settings ≡ freshSettings → effects ≡ zeros 1536 →
+    whole rest effects ≡ freshSheet
 unfolding fresh
-fresh-whole settings e = rw e
+fresh-whole settings r s e = rw (r, s, e)
 
 pub part-none : (d : ℕ) (s s′ : Sheet) {x : Sheet} → d ≡ 0 → x ≡ s′ → _≡_ {A = Answered} (record { answer = answer.Accepted; sheet = x }) (edited (tried d s s′))
 part-none d s s′ e f = ap edited (tried-none d s s′ e f)
