@@ -1,19 +1,14 @@
 -- The loop of the service: the turns so far, and that another is taken only where the last one goes on.
 -- Assumes nothing.
 use Prim.Native.Nat.{ℕ, suc, _+_, _-_, _≤_, _<_}
-use mathlib.Core.Path.{_≡_, refl, sym, _∙_, ap}
+use mathlib.Core.Path.{_≡_, refl}
 use mathlib.Core.List.{List, [], _++_}
 use mathlib.Core.Bool.{Bool, true, false, cond}
 use mathlib.Core.Logic.{⊎-elim}
 use native.Mathlib.Omega.{arith}
-use lib.ListN.{length, take}
-use lib.IntN.{ℤ}
 use Rattle.wire.proofs.Cases.{either}
 use Rattle.sheet.specs.declared.Sheet.{Sheet}
-use Rattle.sheet.specs.Range.{InRange}
-use Rattle.sheet.specs.Parts.{whole}
 use Rattle.stream.specs.Turns.{Turned, Turns, none, turn, Served}
-use Rattle.frames.specs.declared.Service.{Service}
 
 -- the turns, and how many are left: none after one that does not go on
 pub record Serving (room : ℕ) (s₀ s : Sheet) (held : List ℕ) (more : Bool) (left : ℕ) : Type 0 where
@@ -38,7 +33,7 @@ module _ {room : ℕ} {s₀ s : Sheet} {held : List ℕ} {more : Bool} {left : �
   goes-on : 0 < left → more ≡ true
   goes-on l = ⊎-elim (λ e. e) (λ e. absurd (let z = h .over e in omega arith)) (either more)
 
-  pub serving-next : 0 < left → {out : List ℕ} {s′ : Sheet} {held′ : List ℕ} {more′ : Bool} {left′ : ℕ} → Turned room s held out s′ held′ more′ →
+  pub serving-next : 0 < left → {out : List ℕ} {taken : ℕ} {s′ : Sheet} {held′ : List ℕ} {more′ : Bool} {left′ : ℕ} → Turned room s held out taken s′ held′ more′ →
       left′ ≡ cond more′ (left - 1) 0 → Serving room s₀ s′ held′ more′ left′
   serving-next l {out} x e =
       let m = goes-on l in

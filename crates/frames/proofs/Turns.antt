@@ -1,12 +1,13 @@
 -- One turn of the service: it hands on the answers, and holds what the fields answered leave of the bytes held before and those read
 -- after them.
 -- Assumes nothing.
-use Prim.Native.Nat.{ℕ, _+_, _-_, _≤_}
+use Prim.Native.Nat.{ℕ, _-_, _≤_}
 use mathlib.Core.Path.{_≡_, refl, sym, _∙_, ap}
-use mathlib.Core.List.{List, [], _++_}
+use mathlib.Core.List.{List, _++_}
 use mathlib.Core.Bool.{Bool, true, false, not, _&&_}
 use native.Mathlib.Omega.{arith}
 use lib.ListN.{length, take, drop, take-append-drop}
+use lib.Dec.{eqb}
 use lib.IntN.{ℤ}
 use lib.Seq.{slice, length-slice, length-sets, length-take-le, take-at, take-take}
 use borrow.Author.Tests.{not-true}
@@ -43,27 +44,34 @@ held-is : (i : List ℕ) (from to : ℕ) → to ≤ length i → take (to - from
 unfolding over
 held-is i from to h = take-at (slice from to i) _ (to - from) (length-slice from to i h)
 
+pub moved-long : (from : ℕ) {held count : ℕ} {more : Bool} {i i₁ i₂ : List ℕ} → Filled held count more i i₁ → i₂ ≡ over (slice from count i₁) i₁ → length i₂ ≡ length i
+moved-long from {count = count} {i₁ = i₁} h e =
+    let w = slice from count i₁ in
+    let l : count ≤ length i₁ = omega (arith, h .most, h .same) in
+    let k : length w ≤ length i₁ = rw (length-slice from count i₁ l) (omega arith) in
+    ap length (e ∙ sym (front w i₁ k)) ∙ (length-sets i₁ 0 w ∙ h .same)
+
 -- the front of an output that holds the bytes w from its start on
 handed-is : (w o : List ℕ) {o′ : List ℕ} {written given : ℕ} → length w ≤ length o → o′ ≡ over w o → length o′ ≡ length o → written ≡ length w →
-    given ≡ length (take (written - 0) (drop 0 o′)) → take given o′ ≡ w
+    given ≡ length (take (written - 0) (drop 0 o′)) → (take given o′ ≡ w) × (given ≡ length w)
 unfolding over
 handed-is w o {o′} {written} {given} l e k n g =
     let z : written - 0 ≡ written = omega arith in
     let m : given ≡ length w = (rw z at g) ∙ (length-take-le written o′ (omega arith) ∙ n) in
-    rw (m, e) (take-at w (drop (length w) o) (length w) refl)
+    (rw (m, e) (take-at w (drop (length w) o) (length w) refl), m)
 
 ended-all : (ended : Bool) (w : List ℕ) (room : ℕ) (s : Sheet) → ended ≡ true → readyOf w ≡ false → answerRoom ≤ room → answeredOf ended room (fieldsOf w) s ≡ fieldsOf w
 ended-all ended w room s y e h = rw y (end-fields w room s e h)
 
-pub turned : (s : Service) (effects : List ℤ) (i o : List ℕ) (more : Bool) {count given : ℕ} {ok : Bool} {p : Progress} {effects′ : List ℤ} {i₁ i₂ o′ : List ℕ} →
+pub turned : (s : Service) (effects : List ℤ) (i o : List ℕ) (more : Bool) {count given taken : ℕ} {p : Progress} {effects′ : List ℤ} {i₁ i₂ o′ : List ℕ} →
     answerRoom ≤ length o → Filled (s .held) count more i i₁ →
     Progressed (answeredOf (not more) (length o) (fieldsOf (take (count - 0) (drop 0 i₁))) (whole (s .rest) effects)) (begun (s .rest)) effects o p effects′ o′ →
     p .written ≤ length o →
-    (given ≡ length (take (p .written - 0) (drop 0 o′))) × (length (take (p .written - 0) (drop 0 o′)) ≡ 0 → ok ≡ true) →
+    (given ≡ length (take (p .written - 0) (drop 0 o′))) × (taken ≤ length (take (p .written - 0) (drop 0 o′))) →
     i₂ ≡ over (slice (p .consumed) count i₁) i₁ →
-    Turned (length o) (whole (s .rest) effects) (take (s .held) i) (take given o′) (whole (p .rest) effects′) (take (count - p .consumed) i₂)
-    ((more && ok) && not (p .stop))
-turned s effects i o more {count} {given} {ok} {p} {effects′} {i₁} {i₂} {o′} g h a r w m =
+    Turned (length o) (whole (s .rest) effects) (take (s .held) i) (take given o′) taken (whole (p .rest) effects′) (take (count - p .consumed) i₂)
+    ((more && eqb taken given) && not (p .stop))
+turned s effects i o more {count} {given} {taken} {p} {effects′} {i₁} {i₂} {o′} g h a r w m =
     let z : count - 0 ≡ count = omega arith in
     let e = at-hand h in
     let sheet = whole (s .rest) effects in
@@ -75,11 +83,10 @@ turned s effects i o more {count} {given} {ok} {p} {effects′} {i₁} {i₂} {o
     let l : count ≤ length i₁ = omega (arith, h .most, h .same) in
     let n : p .written ≡ length b = omega (arith, x .written) in
     let k : length b ≤ length o = omega arith in
-    let q : take given o′ ≡ b = handed-is b o k (x .output ∙ front b o k) (ap length (x .output) ∙ length-sets o 0 b) n (w .0) in
+    let q = handed-is b o k (x .output ∙ front b o k) (ap length (x .output) ∙ length-sets o 0 b) n (w .0) in
     record {
       new = slice (s .held) count i₁;
       ended = not more;
-      sent = ok;
       fields = fs;
       which = refl;
       all = λ y.
@@ -87,11 +94,8 @@ turned s effects i o more {count} {given} {ok} {p} {effects′} {i₁} {i₂} {o
           let v : got ≡ take (s .held) i = sym e ∙ (ap (λ (j : ℕ). take j i₁) (d .0) ∙ h .kept) in
           ended-all (not more) got (length o) sheet y (ap readyOf v ∙ d .1) g;
       sheet = x .sheet;
-      handed = q;
+      handed = q .0;
+      most = rw (q .0) (omega (arith, q .1, w .0, w .1));
       left = rw m (held-is i₁ (p .consumed) count l ∙ (ap (λ (j : ℕ). drop j (take count i₁)) c ∙ ap (drop (spanOf fs)) e));
-      goes-on = rw (x .stop, not-not);
-      silent = λ y.
-          let d : length b ≡ 0 = ap length (sym q ∙ y) in
-          let j : p .written - 0 ≡ 0 = omega arith in
-          w .1 (rw j);
+      goes-on = rw (x .stop, not-not, q .0, q .1);
     }

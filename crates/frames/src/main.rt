@@ -3,7 +3,7 @@ use effects::EFFECTS;
 use effects::Effects;
 use sheet::Rest;
 ghost use mathlib.Core.Path.{_≡_};
-ghost use mathlib.Core.Bool.{true, cond};
+ghost use mathlib.Core.Bool.{cond};
 ghost use Prim.Native.Nat.{_-_, _≤_, _<_};
 ghost use lib.ListN.{length, take};
 ghost use Rattle.effects.specs.Effects.{zeros, effectCount};
@@ -48,18 +48,18 @@ fn write_some(bytes: &[u8], count: usize) -> Moved
     }
 }
 
-// How many bytes were handed on, and whether all of them are written: they are not where the output is closed or full.
+// How many bytes were handed on, and how many of them are written: fewer where the output is closed or full.
 pub struct Sent {
     pub given: usize,
-    pub all: bool,
+    pub taken: usize,
 }
 
 fn write_all(bytes: &[u8]) -> Sent
-    ensures { λ r. ⌜ (r .given ≡ length (now (bytes .entry))) × (length (now (bytes .entry)) ≡ 0 → r .all ≡ true) ⌝ }
+    ensures { λ r. ⌜ (r .given ≡ length (now (bytes .entry))) × (r .taken ≤ length (now (bytes .entry))) ⌝ }
 {
     let given = bytes.len();
     if given == 0 {
-        return Sent { given, all: true };
+        return Sent { given, taken: 0 };
     }
     let mut m = Moved {
         count: 0,
@@ -73,7 +73,7 @@ fn write_all(bytes: &[u8]) -> Sent
     }
     Sent {
         given,
-        all: m.count == given,
+        taken: m.count,
     }
 }
 
@@ -103,18 +103,19 @@ fn read_some(input: &mut [u8], held: usize) -> Moved
 }
 
 // What the service keeps from turn to turn: the sheet apart from its effects, how many bytes of input it holds, how many bytes of
-// output it handed on last, and whether it goes on.
+// output it handed on and how many of them were written, and whether it goes on.
 pub struct Service {
     pub rest: Rest,
     pub held: usize,
     pub given: usize,
+    pub taken: usize,
     pub more: bool,
 }
 
 // One read at most, the answers to the fields that are then at hand, and one write of them.
 fn turn(s: Service, effects: &mut Effects, input: &mut [u8], output: &mut [u8]) -> Service
     requires { ⌜ InRange (whole (s .rest) (now effects)) × (s .held ≤ length (now input)) × (answerRoom ≤ length (now output)) ⌝ }
-    ensures { λ r. ⌜ Turned (length (now (output .entry))) (whole (s .rest) (now (effects .entry))) (take (s .held) (now (input .entry))) (take (r .given) (now (output .exit))) (whole (r .rest) (now (effects .exit))) (take (r .held) (now (input .exit))) (r .more) ⌝ }
+    ensures { λ r. ⌜ Turned (length (now (output .entry))) (whole (s .rest) (now (effects .entry))) (take (s .held) (now (input .entry))) (take (r .given) (now (output .exit))) (r .taken) (whole (r .rest) (now (effects .exit))) (take (r .held) (now (input .exit))) (r .more) ⌝ }
     ensures { λ r. ⌜ InRange (whole (r .rest) (now (effects .exit))) × (r .held ≤ length (now (input .entry))) × (length (now (input .exit)) ≡ length (now (input .entry))) × (length (now (output .exit)) ≡ length (now (output .entry))) ⌝ }
 {
     let rest = s.rest;
@@ -131,7 +132,8 @@ fn turn(s: Service, effects: &mut Effects, input: &mut [u8], output: &mut [u8]) 
         rest: next,
         held: end - consumed,
         given: w.given,
-        more: m.more & w.all & !p.stop,
+        taken: w.taken,
+        more: m.more & (w.taken == w.given) & !p.stop,
     }
 }
 
@@ -145,6 +147,7 @@ fn serve(effects: &mut Effects, input: &mut [u8], output: &mut [u8]) -> Service
         rest,
         held: 0,
         given: 0,
+        taken: 0,
         more: true,
     };
     let mut left = u64::MAX;

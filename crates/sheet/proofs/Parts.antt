@@ -5,19 +5,26 @@ use mathlib.Core.List.{List}
 use mathlib.Core.Path.{_≡_, refl, _∙_, ap}
 use lib.IntN.{ℤ}
 use Rattle.standard.specs.declared.Settings.{Settings}
+use Rattle.standard.specs.Rows.{freshSettings}
 use Rattle.effects.specs.Effects.{effectCount, zeros}
 use Rattle.sheet.specs.declared.Sheet.{Sheet}
+use Rattle.sheet.specs.declared.Rest.{Rest}
 use Rattle.sheet.specs.declared.Answered.{Answered}
 use Rattle.sheet.specs.declared.Answer.the-variants as answer
-use Rattle.sheet.specs.Sheet.{fresh}
+use Rattle.sheet.specs.Sheet.{fresh, freshSheet}
 use Rattle.sheet.specs.Parts.{restOf, whole}
 use Rattle.sheet.specs.Edits.{tried}
 use Rattle.sheet.specs.Looks.{edited}
 use Rattle.sheet.proofs.Refusals.{tried-none, tried-due, answered-due}
 
-pub fresh-whole : (settings : Settings) {effects : List ℤ} → effects ≡ zeros effectCount → whole (restOf (fresh settings)) effects ≡ fresh settings
+pub rest-whole : (settings : Settings) {effects : List ℤ} → effects ≡ zeros effectCount → whole (restOf (fresh settings)) effects ≡ fresh settings
 unfolding fresh
-fresh-whole settings e = rw e
+rest-whole settings e = rw e
+
+-- as a program starts
+pub fresh-whole : (settings : Settings) {rest : Rest} {effects : List ℤ} → rest ≡ restOf (fresh settings) → settings ≡ freshSettings → effects ≡ zeros effectCount →
+    whole rest effects ≡ freshSheet
+fresh-whole settings r s e = rw (r, s) (rest-whole freshSettings e)
 
 pub part-none : (d : ℕ) (s s′ : Sheet) {x : Sheet} → d ≡ 0 → x ≡ s′ → _≡_ {A = Answered} (record { answer = answer.Accepted; sheet = x }) (edited (tried d s s′))
 part-none d s s′ e f = ap edited (tried-none d s s′ e f)

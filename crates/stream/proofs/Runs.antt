@@ -8,6 +8,7 @@ use mathlib.Core.Logic.{⊎-elim}
 use native.Mathlib.Omega.{arith}
 use borrow.Author.Tests.{not-true}
 use lib.ListN.{length}
+use lib.Dec.{eqb}
 use Rattle.wire.proofs.Cases.{either}
 use Rattle.sheet.specs.declared.Sheet.{Sheet}
 use Rattle.lists.specs.Lists.{fieldsOf, sheetAfter, answersTo, bytesOf}
@@ -32,7 +33,7 @@ due-join {s₂ = s₂} {out = out} {out₁} v left x y = record {
   sheet = x .sheet ∙ y .sheet;
 }
 
-module _ {room : ℕ} {s : Sheet} {held out : List ℕ} {s′ : Sheet} {held′ : List ℕ} {more : Bool} (x : Turned room s held out s′ held′ more) where
+module _ {room : ℕ} {s : Sheet} {held out : List ℕ} {taken : ℕ} {s′ : Sheet} {held′ : List ℕ} {more : Bool} (x : Turned room s held out taken s′ held′ more) where
   abbrev last : Bool
   last = anyLast (answersTo (x .fields) s)
 
@@ -57,8 +58,8 @@ module _ {room : ℕ} {s : Sheet} {held out : List ℕ} {s′ : Sheet} {held′ 
 
   going : more ≡ true → (x .ended ≡ false) × (last ≡ false)
   going m =
-      let y = and-parts (not (x .ended) && x .sent) (not last) (sym (x .goes-on) ∙ m) in
-      (not-true (x .ended) (and-parts (not (x .ended)) (x .sent) (y .0) .0), not-true last (y .1))
+      let y = and-parts (not (x .ended) && eqb taken (length out)) (not last) (sym (x .goes-on) ∙ m) in
+      (not-true (x .ended) (and-parts (not (x .ended)) (eqb taken (length out)) (y .0) .0), not-true last (y .1))
 
   -- after turns that went on
   module _ {s₀ : Sheet} (read : List ℕ) {out₀ : List ℕ} (h : (t : List ℕ) → Due s₀ (read ++ t) out₀ s (fieldsOf (held ++ t))) where

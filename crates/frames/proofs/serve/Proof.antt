@@ -1,9 +1,8 @@
 -- `frames::serve` meets its contract: it goes on turn by turn from a fresh sheet, which each turn keeps in range.
 -- Assumes nothing.
 use Prim.Native.Nat.{_≤_}
-use mathlib.Core.Path.{_≡_, refl}
+use mathlib.Core.Path.{_≡_}
 use lib.ListN.{length, take}
-use Rattle.standard.specs.Rows.{freshSettings}
 use Rattle.sheet.specs.Sheet.{freshSheet}
 use Rattle.sheet.specs.Parts.{whole}
 use Rattle.sheet.specs.Range.{InRange}
@@ -33,7 +32,7 @@ loop-holds : tie.Need-loop-holds Inv-loop μ-loop
 loop-holds c =
     let a = c .before .before .before .before in
     let e : whole (c .fresh .result) (a .args .effects .now) ≡ freshSheet =
-    rw (c .fresh .ensures, c .before .fresh-settings .ensures) (fresh-whole freshSettings (a .pre .0)) in
+    fresh-whole _ (c .fresh .ensures) (c .before .fresh-settings .ensures) (a .pre .0) in
     (serving-start (length (a .args .output .now)) e, rw e fresh-kept, search needs, search needs, search needs, search needs)
 
 turn-requires : tie.Need-turn-requires Inv-loop μ-loop

@@ -1,7 +1,7 @@
 -- `frames::turn` meets its contract, and keeps the sheet in range, the bytes held within the input, and both buffers as long as they were.
 -- Assumes nothing.
 use native.Mathlib.Omega.{arith}
-use Rattle.frames.proofs.Turns.{turned}
+use Rattle.frames.proofs.Turns.{turned, moved-long}
 use borrow.Author.Needs.{needs}
 use Rattle.frames.proofs.turn.Statement.{statement}
 use Rattle.frames.proofs.turn.Tie as tie
@@ -40,7 +40,9 @@ sub-t19 : tie.Need-sub-t19
 sub-t19 c = search needs
 
 same-length : tie.Need-same-length
-same-length c = search needs
+same-length c =
+    let a = c .before .before .before .before .before .before .before .before .before .before .before .before .before in
+    moved-long (a .answer-all .result .consumed) (a .before .before .before .before .before .before .before .before .read-some .ensures) (c .before .before .before .before .before .before .shift .ensures)
 
 same-length-2 : tie.Need-same-length-2
 same-length-2 c = search needs

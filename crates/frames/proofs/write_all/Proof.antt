@@ -1,7 +1,6 @@
 -- `frames::write_all` meets its contract, and the count of bytes written stays within the bytes.
 -- Assumes nothing.
 use Prim.Native.Nat.{_≤_}
-use mathlib.Core.Path.{refl}
 use lib.ListN.{length}
 use borrow.Author.Needs.{needs}
 use Rattle.frames.proofs.write_all.Statement.{statement}
@@ -14,7 +13,7 @@ abbrev μ-loop : tie.MeasureT-loop
 μ-loop bytes given m₀ left₀ m left = left
 
 returns : tie.Need-returns Inv-loop μ-loop
-returns c = (refl, λ _. refl)
+returns c = search needs
 
 loop-holds : tie.Need-loop-holds Inv-loop μ-loop
 loop-holds c = search needs
@@ -32,7 +31,7 @@ loop-again : tie.Need-loop-again Inv-loop μ-loop
 loop-again c = search needs
 
 returns-2 : tie.Need-returns-2 Inv-loop μ-loop
-returns-2 c = (refl, λ e. absurd (c .before .before .before .if1 .left e))
+returns-2 c = search needs
 
 pub write-all-spec : {M : Type 1} → statement M
 write-all-spec =

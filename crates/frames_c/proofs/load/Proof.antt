@@ -1,13 +1,9 @@
 -- `frames_c::load` meets its contract: a fresh sheet is in range, and one answer has room.
 -- Assumes nothing.
 use Prim.Native.Nat.{ℕ}
-use mathlib.Core.Path.{_≡_}
 use mathlib.Core.Bool.{false}
 use native.Mathlib.Omega.{arith}
 use lib.ListN.{replicate}
-use Rattle.standard.specs.Rows.{freshSettings}
-use Rattle.sheet.specs.Sheet.{freshSheet}
-use Rattle.sheet.specs.Parts.{whole}
 use Rattle.sheet.proofs.Kept.{fresh-kept}
 use Rattle.sheet.proofs.Parts.{fresh-whole}
 use Rattle.frames_c.specs.Loop.{Room}
@@ -33,9 +29,7 @@ slice-aggregate-read-all c = search needs
 read-all-requires : tie.Need-read-all-requires
 read-all-requires c κs =
     let f = c .before .before in
-    let a = f .before .before .before in
-    let e : whole (f .fresh .result) (a .args .effects .now) ≡ freshSheet =
-    rw (f .fresh .ensures, f .before .fresh-settings .ensures) (fresh-whole freshSettings (a .pre)) in
+    let e = fresh-whole _ (f .fresh .ensures) (f .before .fresh-settings .ensures) (f .before .before .before .pre) in
     (rw e fresh-kept, small _)
 
 returns : tie.Need-returns
@@ -43,8 +37,7 @@ returns c =
     let r = c .before in
     let f = r .before .before .before in
     let a = f .before .before .before in
-    let e : whole (f .fresh .result) (a .args .effects .now) ≡ freshSheet =
-    rw (f .fresh .ensures, f .before .fresh-settings .ensures) (fresh-whole freshSettings (a .pre)) in
+    let e = fresh-whole _ (f .fresh .ensures) (f .before .fresh-settings .ensures) (a .pre) in
     load-is (a .args .state .now) (r .read-all .result) _ (replicate answerRoom 0) (rw e at (r .read-all .ensures))
 
 pub load-spec : {M : Type 1} → statement M

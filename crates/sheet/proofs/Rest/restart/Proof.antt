@@ -1,7 +1,7 @@
 -- `sheet::Rest::restart` meets its contract: the edit where no refusal is due, else all as it was.
 -- Assumes nothing.
 use mathlib.Core.Path.{sym, _∙_}
-use Rattle.sheet.proofs.Parts.{fresh-whole, part-none, part-due}
+use Rattle.sheet.proofs.Parts.{rest-whole, part-none, part-due}
 use borrow.Author.Needs.{needs}
 use Rattle.sheet.proofs.Rest.restart.Statement.{statement}
 use Rattle.sheet.proofs.Rest.restart.Tie as tie
@@ -22,7 +22,7 @@ returns : tie.Need-returns
 returns c =
     let z = c .before .before in
     part-none _ _ _ (sym (z .before .before .before .due-settings .ensures) ∙ z .before .before .if1 .taken)
-    (rw (c .fresh .ensures, c .before .of .ensures) (fresh-whole _ (z .clear-all .ensures)))
+    (rw (c .fresh .ensures, c .before .of .ensures) (rest-whole _ (z .clear-all .ensures)))
 
 returns-2 : tie.Need-returns-2
 returns-2 c = part-due _ _ _ (c .before .due-settings .ensures) (c .if1 .left)
