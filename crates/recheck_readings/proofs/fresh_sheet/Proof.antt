@@ -4,8 +4,8 @@ use mathlib.Core.Path.{refl}
 use borrow.Author.Needs.{needs}
 use Rattle.sheet.specs.Edits.{dueSettings}
 use Rattle.sheet.proofs.Kept.{fresh-in-range}
-use Rattle.recheck_run.proofs.fresh_sheet.Statement.{statement}
-use Rattle.recheck_run.proofs.fresh_sheet.Tie as tie
+use Rattle.recheck_readings.proofs.fresh_sheet.Statement.{statement}
+use Rattle.recheck_readings.proofs.fresh_sheet.Tie as tie
 
 fresh-requires : tie.Need-fresh-requires
 fresh-requires c κs = search needs
