@@ -1,6 +1,6 @@
 -- Each turn keeps the sheet in range and its place within the input, and leaves fewer turns.
 -- Assumes nothing.
-use Rattle.recheck_run.specs.Place.{Place}
+use Rattle.recheck_readings.specs.Place.{Place}
 use borrow.Author.Needs.{needs}
 use Rattle.recheck_run.proofs.run_all.Statement.{statement}
 use Rattle.recheck_run.proofs.run_all.Tie as tie

@@ -2,8 +2,8 @@
 -- Assumes nothing.
 use borrow.Author.Needs.{needs}
 use Rattle.sheet.proofs.Kept.{fresh-kept}
-use Rattle.recheck_run.proofs.fresh_sheet.Statement.{statement}
-use Rattle.recheck_run.proofs.fresh_sheet.Tie as tie
+use Rattle.recheck_readings.proofs.fresh_sheet.Statement.{statement}
+use Rattle.recheck_readings.proofs.fresh_sheet.Tie as tie
 
 fresh-settings-requires : tie.Need-fresh-settings-requires
 fresh-settings-requires c κs = search needs

@@ -6,10 +6,10 @@ use Prim.Native.Nat.{ℕ, _≤_}
 use lib.ListN.{length}
 use Rattle.sheet.specs.declared.Sheet.{Sheet}
 use Rattle.sheet.specs.Range.{InRange}
-use Rattle.recheck_run.specs.Place.{Place}
+use Rattle.recheck_readings.specs.Place.{Place}
 use borrow.Author.Needs.{needs}
-use Rattle.recheck_run.proofs.read_and_check.Statement.{statement}
-use Rattle.recheck_run.proofs.read_and_check.Tie as tie
+use Rattle.recheck_readings.proofs.read_and_check.Statement.{statement}
+use Rattle.recheck_readings.proofs.read_and_check.Tie as tie
 
 placed : {s t : Sheet} {a b : ℕ} {input : List ℕ} → s ≡ t → a ≡ b → InRange t → b ≤ length input → Place s a input
 placed p q r h = record { in-range = rw p r; start-in = rw q h }

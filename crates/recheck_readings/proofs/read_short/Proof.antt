@@ -1,8 +1,8 @@
 -- The short reading keeps the sheet in range and the place as it was.
 -- Assumes nothing.
 use borrow.Author.Needs.{needs}
-use Rattle.recheck_run.proofs.read_short.Statement.{statement}
-use Rattle.recheck_run.proofs.read_short.Tie as tie
+use Rattle.recheck_readings.proofs.read_short.Statement.{statement}
+use Rattle.recheck_readings.proofs.read_short.Tie as tie
 
 sub-read-field : tie.Need-sub-read-field
 sub-read-field c = search needs
