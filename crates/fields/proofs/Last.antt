@@ -83,22 +83,22 @@ edit-not-last : (due : ℕ) (s s′ : Sheet) → Not3 due → NotLast (edited (t
 unfolding tried
 edit-not-last due s s′ d = due-not-last due Accepted d refl
 
-abbrev Whole : Answered → Type 0
-Whole a = NotLast (a .answer)
+abbrev NotLastAnswer : Answered → Type 0
+NotLastAnswer a = NotLast (a .answer)
 
-run-not-last : (s : Sheet) (tag : ℕ) (b : List ℕ) → Whole (runOf s tag b)
+run-not-last : (s : Sheet) (tag : ℕ) (b : List ℕ) → NotLastAnswer (runOf s tag b)
 unfolding runOf lookedExtremes lookedUtilisation
 run-not-last s tag b =
-    both Whole (eqb tag 1) (edit-not-last _ s _ (settings-not3 _ _ _))
-    (both Whole (eqb tag 2) (edit-not-last _ s _ (fill-not3 _ _ _))
-    (both Whole (eqb tag 3) (edit-not-last _ s _ (effects-not3 _ _ _ _ _ _))
-    (both Whole (eqb tag 4) (edit-not-last _ s _ (empty-not3 _ _))
-    (both Whole (eqb tag 5) (edit-not-last _ s _ (capacities-not3 _ _ _ _))
-    (both Whole (eqb tag 6) (due-not-last _ _ (extremes-not3 _ _) refl) (due-not-last _ _ (utilisation-not3 _ _) refl))))))
+    both NotLastAnswer (eqb tag 1) (edit-not-last _ s _ (settings-not3 _ _ _))
+    (both NotLastAnswer (eqb tag 2) (edit-not-last _ s _ (fill-not3 _ _ _))
+    (both NotLastAnswer (eqb tag 3) (edit-not-last _ s _ (effects-not3 _ _ _ _ _ _))
+    (both NotLastAnswer (eqb tag 4) (edit-not-last _ s _ (empty-not3 _ _))
+    (both NotLastAnswer (eqb tag 5) (edit-not-last _ s _ (capacities-not3 _ _ _ _))
+    (both NotLastAnswer (eqb tag 6) (due-not-last _ _ (extremes-not3 _ _) refl) (due-not-last _ _ (utilisation-not3 _ _) refl))))))
 
-field-not-last : (s : Sheet) (tag : ℕ) (b : List ℕ) → Whole (fieldOf s tag b)
+field-not-last : (s : Sheet) (tag : ℕ) (b : List ℕ) → NotLastAnswer (fieldOf s tag b)
 unfolding fieldOf
-field-not-last s tag b = both Whole (eqb (dueHeader tag (length b)) 0) (run-not-last s tag b) (header-not3 tag (length b) .differs)
+field-not-last s tag b = both NotLastAnswer (eqb (dueHeader tag (length b)) 0) (run-not-last s tag b) (header-not3 tag (length b) .differs)
 
 header-last : (h : Header) (input : List ℕ) (s : Sheet) → lastOf (readHeader h input s .answer) ≡ true → h ≡ Short
 unfolding readHeader
