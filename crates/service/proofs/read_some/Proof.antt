@@ -1,4 +1,4 @@
--- `frames::read_some` meets its contract: the bytes held are not touched.
+-- `service::read_some` meets its contract: the bytes held are not touched.
 -- Assumes nothing.
 use Prim.Native.Nat.{ℕ, _-_}
 use mathlib.Core.Path.{_≡_, refl}
@@ -6,10 +6,10 @@ use native.Mathlib.Omega.{arith}
 use borrow.Author.Tests.{ltb-false}
 use lib.ListN.{length}
 use borrow.Rule.Slice.PartMut.{take-put}
-use Rattle.frames.proofs.Turns.{not-ready}
+use Rattle.service.proofs.Turns.{not-ready}
 use borrow.Author.Needs.{needs}
-use Rattle.frames.proofs.read_some.Statement.{statement}
-use Rattle.frames.proofs.read_some.Tie as tie
+use Rattle.service.proofs.read_some.Statement.{statement}
+use Rattle.service.proofs.read_some.Tie as tie
 
 sub-is-ready : tie.Need-sub-is-ready
 sub-is-ready c = search needs

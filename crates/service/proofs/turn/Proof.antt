@@ -1,10 +1,10 @@
--- `frames::turn` meets its contract, and keeps the sheet in range, the bytes held within the input, and both buffers as long as they were.
+-- `service::turn` meets its contract, and keeps the sheet in range, the bytes held within the input, and both buffers as long as they were.
 -- Assumes nothing.
 use native.Mathlib.Omega.{arith}
-use Rattle.frames.proofs.Turns.{turned, moved-long}
+use Rattle.service.proofs.Turns.{turned, moved-long}
 use borrow.Author.Needs.{needs}
-use Rattle.frames.proofs.turn.Statement.{statement}
-use Rattle.frames.proofs.turn.Tie as tie
+use Rattle.service.proofs.turn.Statement.{statement}
+use Rattle.service.proofs.turn.Tie as tie
 
 read-some-requires : tie.Need-read-some-requires
 read-some-requires c κs = search needs

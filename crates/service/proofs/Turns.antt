@@ -21,8 +21,8 @@ use Rattle.stream.specs.declared.Progress.{Progress}
 use Rattle.stream.specs.Answering.{answeredOf, begun, Progressed}
 use Rattle.stream.specs.Turns.{Turned}
 use Rattle.stream.proofs.Ends.{end-fields}
-use Rattle.frames.specs.declared.Service.{Service}
-use Rattle.frames.specs.Filled.{Filled}
+use Rattle.service.specs.declared.Service.{Service}
+use Rattle.service.specs.Filled.{Filled}
 use Rattle.answers.specs.Answers.{answerRoom}
 
 not-not : (a : Bool) → not (not a) ≡ a

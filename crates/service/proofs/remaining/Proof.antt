@@ -1,8 +1,8 @@
--- `frames::remaining` meets its contract.
+-- `service::remaining` meets its contract.
 -- Assumes nothing.
 use borrow.Author.Needs.{needs}
-use Rattle.frames.proofs.remaining.Statement.{statement}
-use Rattle.frames.proofs.remaining.Tie as tie
+use Rattle.service.proofs.remaining.Statement.{statement}
+use Rattle.service.proofs.remaining.Tie as tie
 
 sub-result : tie.Need-sub-result
 sub-result c = search needs

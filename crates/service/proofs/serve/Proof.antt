@@ -1,4 +1,4 @@
--- `frames::serve` meets its contract: it goes on turn by turn from a fresh sheet, which each turn keeps in range.
+-- `service::serve` meets its contract: it goes on turn by turn from a fresh sheet, which each turn keeps in range.
 -- Assumes nothing.
 use Prim.Native.Nat.{_≤_}
 use mathlib.Core.Path.{_≡_}
@@ -8,10 +8,10 @@ use Rattle.sheet.specs.Parts.{whole}
 use Rattle.sheet.specs.Range.{InRange}
 use Rattle.sheet.proofs.Kept.{fresh-kept}
 use Rattle.sheet.proofs.Parts.{fresh-whole}
-use Rattle.frames.proofs.Serving.{Serving, serving-start, serving-next, served}
+use Rattle.service.proofs.Serving.{Serving, serving-start, serving-next, served}
 use borrow.Author.Needs.{needs}
-use Rattle.frames.proofs.serve.Statement.{statement}
-use Rattle.frames.proofs.serve.Tie as tie
+use Rattle.service.proofs.serve.Statement.{statement}
+use Rattle.service.proofs.serve.Tie as tie
 use Rattle.answers.specs.Answers.{answerRoom}
 
 abbrev Inv-loop : tie.InvT-loop

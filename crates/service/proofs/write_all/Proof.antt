@@ -1,10 +1,10 @@
--- `frames::write_all` meets its contract, and the count of bytes written stays within the bytes.
+-- `service::write_all` meets its contract, and the count of bytes written stays within the bytes.
 -- Assumes nothing.
 use Prim.Native.Nat.{_≤_}
 use lib.ListN.{length}
 use borrow.Author.Needs.{needs}
-use Rattle.frames.proofs.write_all.Statement.{statement}
-use Rattle.frames.proofs.write_all.Tie as tie
+use Rattle.service.proofs.write_all.Statement.{statement}
+use Rattle.service.proofs.write_all.Tie as tie
 
 abbrev Inv-loop : tie.InvT-loop
 Inv-loop bytes given m₀ left₀ m left = m .count ≤ length bytes
