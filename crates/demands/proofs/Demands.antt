@@ -30,7 +30,8 @@ use Rattle.refusals.proofs.Fits.{settings-range}
 use Rattle.sheet.proofs.Stations.{effect-seen}
 use Rattle.fields.specs.declared.Reading.{Reading}
 use Rattle.headers.specs.Headers.{lengthOf, dueHeader}
-use Rattle.fields.specs.Field.{runOf, fieldOf, readField}
+use Rattle.fields.specs.Field.{readField}
+use Rattle.fields.specs.Order.{runOf, fieldOf}
 use Rattle.fields.proofs.Kept.{read-kept}
 use Rattle.fields.proofs.Refused.{refused-unchanged}
 use Rattle.fields.proofs.Within.{within}
@@ -100,7 +101,7 @@ module _ (w : Sheet) (h : InRange w) where
 
   extremes-field : (t j : ℕ) → t < 16 → j < 3 →
       fieldOf w 6 (t ∷ j ∷ []) ≡ record { answer = answer.Extremes (extremesAt w t j); sheet = w }
-  unfolding fieldOf dueHeader lengthOf runOf lookedExtremes dueExtremes
+  unfolding fieldOf dueHeader lengthOf runOf dueExtremes
   extremes-field t j a b =
       let p : t ≤ 15 = omega arith in
       let q : j ≤ 2 = omega arith in
@@ -108,7 +109,7 @@ module _ (w : Sheet) (h : InRange w) where
 
   utilisation-field : (t : ℕ) → t < 16 → 0 < capacityAt w t 0 →
       fieldOf w 7 (t ∷ []) ≡ record { answer = answer.Utilisation (utilisationAt w t); sheet = w }
-  unfolding fieldOf dueHeader lengthOf runOf lookedUtilisation dueUtilisationAt
+  unfolding fieldOf dueHeader lengthOf runOf dueUtilisationAt
   utilisation-field t a c =
       let p : t ≤ 15 = omega arith in
       rw (le-ltb 15 t p, ne-eqb (capacityAt w t 0) 0 (λ e. omega arith))

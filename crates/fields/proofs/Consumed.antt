@@ -10,7 +10,9 @@ use Rattle.sheet.specs.declared.Sheet.{Sheet}
 use Rattle.headers.specs.declared.Header.{Header}
 use Rattle.headers.specs.declared.Header.the-variants.{Field, Short}
 use Rattle.headers.specs.Headers.{headerOf, consumedOf, consumedBy}
-use Rattle.fields.specs.Field.{readHeader, readField}
+use Rattle.fields.specs.Field.{readField}
+use Rattle.fields.specs.Order.{readHeader, readInOrder}
+use Rattle.fields.proofs.InOrder.{read-is}
 use Rattle.answers.specs.Answers.{answerBytes, answerRoom}
 
 header-consumed : (h : Header) (input : List ℕ) (s : Sheet) → readHeader h input s .consumed ≡ consumedOf h input
@@ -24,9 +26,12 @@ header-written Short input s = refl
 header-written (Field tag len) input s = refl
 
 module _ (input : List ℕ) (s : Sheet) where
+  in-order : (room : ℕ) → answerRoom ≤ room → readInOrder input room s ≡ readHeader (headerOf input) input s
+  unfolding readInOrder
+  in-order room h = rw (le-ltb room answerRoom h)
+
   roomy : (room : ℕ) → answerRoom ≤ room → readField input room s ≡ readHeader (headerOf input) input s
-  unfolding readField
-  roomy room h = rw (le-ltb room answerRoom h)
+  roomy room h = read-is input room s ∙ in-order room h
 
   pub same-with-room : (room : ℕ) → answerRoom ≤ room → readField input room s ≡ readField input answerRoom s
   same-with-room room h = roomy room h ∙ sym (roomy answerRoom (omega arith))

@@ -2,6 +2,7 @@
 -- Assumes nothing.
 use Prim.Native.Nat.{ℕ}
 use mathlib.Core.List.{List}
+use mathlib.Core.Path.{sym, subst}
 use lib.ListN.{length, take, drop}
 use lib.Dec.{eqb, ltb}
 use Rattle.sheet.specs.declared.Sheet.{Sheet}
@@ -13,7 +14,9 @@ use Rattle.headers.specs.declared.Header.{Header}
 use Rattle.headers.specs.declared.Header.the-variants.{Field, Short}
 use Rattle.fields.specs.declared.Reading.{Reading}
 use Rattle.headers.specs.Headers.{headerOf, dueHeader}
-use Rattle.fields.specs.Field.{runOf, fieldOf, readHeader, readField}
+use Rattle.fields.specs.Field.{readField}
+use Rattle.fields.specs.Order.{runOf, fieldOf, readHeader, readInOrder}
+use Rattle.fields.proofs.InOrder.{read-is}
 use Rattle.wire.proofs.Cases.{both}
 use Rattle.fields.proofs.Laws.{run-by}
 use Rattle.answers.specs.Answers.{answerRoom}
@@ -36,6 +39,9 @@ unfolding readHeader
 header-kept Short input s h = h
 header-kept (Field tag len) input s h = field-kept s tag (take len (drop 3 input)) h
 
+order-kept : (input : List ℕ) (room : ℕ) (s : Sheet) → InRange s → InRange (readInOrder input room s .sheet)
+unfolding readInOrder
+order-kept input room s h = both (λ (r : Reading). InRange (r .sheet)) (ltb room answerRoom) h (header-kept (headerOf input) input s h)
+
 pub read-kept : (input : List ℕ) (room : ℕ) (s : Sheet) → InRange s → InRange (readField input room s .sheet)
-unfolding readField
-read-kept input room s h = both (λ (r : Reading). InRange (r .sheet)) (ltb room answerRoom) h (header-kept (headerOf input) input s h)
+read-kept input room s h = subst (λ (r : Reading). InRange (r .sheet)) (sym (read-is input room s)) (order-kept input room s h)

@@ -4,7 +4,7 @@
 use Prim.Native.Nat.{ℕ}
 use mathlib.Core.Path.{_≡_, refl, sym, _∙_, ap}
 use mathlib.Core.List.{List, _++_}
-use mathlib.Core.Bool.{true, false}
+use mathlib.Core.Bool.{true, false, not}
 use native.Mathlib.Omega.{arith}
 use lib.ListN.{length, take, drop}
 use lib.Dec.{ltb, eqb}
@@ -18,9 +18,13 @@ use Rattle.sheet.specs.Looks.{unlessDue, lookedExtremes, lookedUtilisation, edi
 use Rattle.headers.specs.declared.Header.{Header}
 use Rattle.headers.specs.declared.Header.the-variants.{Field, Short}
 use Rattle.headers.specs.Headers.{headerOf, lengthOf, dueHeader, consumedBy, consumedOf, readyOf}
-use Rattle.fields.specs.Field.{runOf, fieldOf, readHeader, readField}
+use Rattle.fields.specs.Field.{readField}
+use Rattle.fields.specs.Order.{runOf, fieldOf, readHeader, readInOrder}
+use Rattle.fields.proofs.InOrder.{read-is}
 use Rattle.answers.specs.Answers.{lastOf, answerRoom}
 use Rattle.wire.proofs.Cases.{both}
+use Rattle.fields.specs.declared.Reading.{Reading}
+use Rattle.fields.proofs.Laws.{run-by}
 use Rattle.fields.proofs.Ready.{header-same}
 
 abbrev NotLast : Answer → Type 0
@@ -49,7 +53,7 @@ settings-not3 method live zone =
 fill-not3 : (held case kind : ℕ) → Not3 (dueFillAt held case kind)
 unfolding dueFillAt
 fill-not3 held case kind =
-    both Not3 (ltb 31 case) (number 5 refl) (both Not3 (kindOutside kind) (number 7 refl) (both Not3 (eqb held 0) none (number 11 refl)))
+    both Not3 (ltb 31 case) (number 5 refl) (both Not3 (kindOutside kind) (number 7 refl) (both Not3 (not (eqb held 0)) (number 11 refl) none))
 
 effects-not3 : (held case station n y z : ℕ) → Not3 (dueEffectsAt held case station n y z)
 unfolding dueEffectsAt
@@ -87,14 +91,11 @@ abbrev NotLastAnswer : Answered → Type 0
 NotLastAnswer a = NotLast (a .answer)
 
 run-not-last : (s : Sheet) (tag : ℕ) (b : List ℕ) → NotLastAnswer (runOf s tag b)
-unfolding runOf lookedExtremes lookedUtilisation
+unfolding lookedExtremes lookedUtilisation
 run-not-last s tag b =
-    both NotLastAnswer (eqb tag 1) (edit-not-last _ s _ (settings-not3 _ _ _))
-    (both NotLastAnswer (eqb tag 2) (edit-not-last _ s _ (fill-not3 _ _ _))
-    (both NotLastAnswer (eqb tag 3) (edit-not-last _ s _ (effects-not3 _ _ _ _ _ _))
-    (both NotLastAnswer (eqb tag 4) (edit-not-last _ s _ (empty-not3 _ _))
-    (both NotLastAnswer (eqb tag 5) (edit-not-last _ s _ (capacities-not3 _ _ _ _))
-    (both NotLastAnswer (eqb tag 6) (due-not-last _ _ (extremes-not3 _ _) refl) (due-not-last _ _ (utilisation-not3 _ _) refl))))))
+    run-by NotLastAnswer s tag b (edit-not-last _ s _ (settings-not3 _ _ _)) (edit-not-last _ s _ (fill-not3 _ _ _))
+    (edit-not-last _ s _ (effects-not3 _ _ _ _ _ _)) (edit-not-last _ s _ (empty-not3 _ _)) (edit-not-last _ s _ (capacities-not3 _ _ _ _))
+    (due-not-last _ _ (extremes-not3 _ _) refl) (due-not-last _ _ (utilisation-not3 _ _) refl)
 
 field-not-last : (s : Sheet) (tag : ℕ) (b : List ℕ) → NotLastAnswer (fieldOf s tag b)
 unfolding fieldOf
@@ -107,9 +108,12 @@ header-last (Field tag len) input s e =
     let n = sym (field-not-last s tag (take len (drop 3 input))) ∙ e in
     absurd (let z : _≡_ {A = ℕ} 0 1 = cc in omega arith)
 
+order-last : (input : List ℕ) (s : Sheet) → lastOf (readInOrder input answerRoom s .answer) ≡ true → headerOf input ≡ Short
+unfolding readInOrder
+order-last input s e = header-last (headerOf input) input s e
+
 last-short : (input : List ℕ) (s : Sheet) → lastOf (readField input answerRoom s .answer) ≡ true → headerOf input ≡ Short
-unfolding readField
-last-short input s e = header-last (headerOf input) input s e
+last-short input s e = order-last input s (ap (λ (r : Reading). lastOf (r .answer)) (sym (read-is input answerRoom s)) ∙ e)
 
 pub last-all : (input t : List ℕ) (s : Sheet) → readyOf input ≡ true → lastOf (readField input answerRoom s .answer) ≡ true →
     consumedBy (input ++ t) ≡ length (input ++ t)

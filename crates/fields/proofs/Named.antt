@@ -24,7 +24,7 @@ use Rattle.sheet.specs.Edits.{tried}
 use Rattle.sheet.specs.Looks.{stationEffects, capacitiesAt, extremesAt, utilisationAt, dueUtilisation, lookedExtremes, lookedUtilisation, unlessDue, edited}
 use Rattle.refusals.specs.Refusals.{dueExtremes}
 use Rattle.headers.specs.Headers.{dueHeader}
-use Rattle.fields.specs.Field.{runOf, fieldOf}
+use Rattle.fields.specs.Order.{runOf, fieldOf}
 use Rattle.answers.specs.Rows.{RowsFit}
 use Rattle.wire.proofs.Cases.{both}
 use Rattle.fields.proofs.Laws.{run-by}

@@ -2,7 +2,7 @@
 -- the bytes.
 -- Assumes nothing.
 use Prim.Native.Nat.{ℕ, _+_, _-_, _≤_}
-use mathlib.Core.Path.{_≡_, refl, sym, _∙_, ap}
+use mathlib.Core.Path.{_≡_, refl, sym, _∙_, ap, subst}
 use mathlib.Core.List.{List, _++_}
 use mathlib.Core.Bool.{Bool, true, false, cond}
 use mathlib.Core.Logic.{⊎-elim, _⊎_, inl, inr}
@@ -18,7 +18,9 @@ use Rattle.headers.specs.declared.Header.the-variants.{Field, Short}
 use Rattle.fields.specs.declared.Reading.{Reading}
 use Rattle.headers.specs.Headers.{longestBody, headerOf, consumedOf, consumedBy, readyOf}
 use Rattle.answers.specs.Answers.{lastOf, answerRoom}
-use Rattle.fields.specs.Field.{readHeader, readField}
+use Rattle.fields.specs.Field.{readField}
+use Rattle.fields.specs.Order.{readHeader, readInOrder}
+use Rattle.fields.proofs.InOrder.{read-is}
 use Rattle.headers.proofs.Whole.{header-fits}
 
 -- the second reading has the first one's answer and sheet, and consumes as much unless it is a 3
@@ -77,9 +79,13 @@ module _ (s t : List ℕ) where
       let b = body-same len (header-fits s tag len e refl) in
       record { answer = rw b; sheet = rw b; consumed = λ _. refl }
 
+  order-same : (room : ℕ) (sheet : Sheet) → readyOf s ≡ true → SameReading (readInOrder s room sheet) (readInOrder (s ++ t) room sheet)
+  unfolding readInOrder
+  order-same room sheet e = by-room (ltb room answerRoom) _ _ _ (rw (header-same e) (header-read (headerOf s) sheet refl))
+
   pub ready-same : (room : ℕ) (sheet : Sheet) → readyOf s ≡ true → SameReading (readField s room sheet) (readField (s ++ t) room sheet)
-  unfolding readField
-  ready-same room sheet e = by-room (ltb room answerRoom) _ _ _ (rw (header-same e) (header-read (headerOf s) sheet refl))
+  ready-same room sheet e =
+      subst (λ (f : List ℕ → Reading). SameReading (f s) (f (s ++ t))) (λ i x. sym (read-is x room sheet) i) (order-same room sheet e)
 
 cut-tests : (a b c : Bool) (h : Header) → cond a false (cond b true (cond c false true)) ≡ false → cond a Short (cond b Short (cond c Short h)) ≡ Short
 cut-tests true b c h e = refl

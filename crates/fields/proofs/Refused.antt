@@ -1,7 +1,7 @@
 -- Only an accepted field changes the sheet.
 -- Assumes nothing.
 use Prim.Native.Nat.{ℕ}
-use mathlib.Core.Path.{_≡_, refl}
+use mathlib.Core.Path.{_≡_, refl, sym, subst}
 use mathlib.Core.List.{List}
 use borrow.Author.Tests.{eq-eqb, ne-eqb}
 use lib.ListN.{length, take, drop}
@@ -15,8 +15,11 @@ use Rattle.headers.specs.declared.Header.{Header}
 use Rattle.headers.specs.declared.Header.the-variants.{Field, Short}
 use Rattle.fields.specs.declared.Reading.{Reading}
 use Rattle.headers.specs.Headers.{headerOf, dueHeader}
-use Rattle.fields.specs.Field.{runOf, fieldOf, readHeader, readField}
+use Rattle.fields.specs.Field.{readField}
+use Rattle.fields.specs.Order.{runOf, fieldOf, readHeader, readInOrder}
+use Rattle.fields.proofs.InOrder.{read-is}
 use Rattle.wire.proofs.Cases.{both}
+use Rattle.fields.proofs.Laws.{run-by}
 use Rattle.answers.specs.Answers.{answerRoom}
 
 -- unless it is accepted, the old sheet is handed back
@@ -28,13 +31,10 @@ unfolding tried
 tried-unedited d s s′ h = rw (ne-eqb d 0 (λ e. h (rw (eq-eqb d 0 e))))
 
 run-unedited : (s : Sheet) (tag : ℕ) (b : List ℕ) → Unedited s (runOf s tag b)
-unfolding runOf lookedExtremes lookedUtilisation
+unfolding lookedExtremes lookedUtilisation
 run-unedited s tag b =
-    both (Unedited s) (eqb tag 1) (tried-unedited _ s _)
-    (both (Unedited s) (eqb tag 2) (tried-unedited _ s _)
-    (both (Unedited s) (eqb tag 3) (tried-unedited _ s _)
-    (both (Unedited s) (eqb tag 4) (tried-unedited _ s _)
-    (both (Unedited s) (eqb tag 5) (tried-unedited _ s _) (both (Unedited s) (eqb tag 6) (λ _. refl) (λ _. refl))))))
+    run-by (Unedited s) s tag b (tried-unedited _ s _) (tried-unedited _ s _) (tried-unedited _ s _) (tried-unedited _ s _) (tried-unedited _ s _)
+    (λ _. refl) (λ _. refl)
 
 field-unedited : (s : Sheet) (tag : ℕ) (b : List ℕ) → Unedited s (fieldOf s tag b)
 unfolding fieldOf
@@ -48,6 +48,9 @@ unfolding readHeader
 header-unread Short input s = λ _. refl
 header-unread (Field tag len) input s = field-unedited s tag (take len (drop 3 input))
 
+order-unread : (input : List ℕ) (room : ℕ) (s : Sheet) → Unread s (readInOrder input room s)
+unfolding readInOrder
+order-unread input room s = both (Unread s) (ltb room answerRoom) (λ _. refl) (header-unread (headerOf input) input s)
+
 pub refused-unchanged : (input : List ℕ) (room : ℕ) (s : Sheet) → (readField input room s .answer ≡ Accepted → ⊥) → readField input room s .sheet ≡ s
-unfolding readField
-refused-unchanged input room s = both (Unread s) (ltb room answerRoom) (λ _. refl) (header-unread (headerOf input) input s)
+refused-unchanged input room s = subst (Unread s) (sym (read-is input room s)) (order-unread input room s)

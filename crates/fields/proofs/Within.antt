@@ -21,7 +21,9 @@ use Rattle.headers.specs.declared.Header.{Header}
 use Rattle.headers.specs.declared.Header.the-variants.{Field, Short}
 use Rattle.fields.specs.declared.Reading.{Reading}
 use Rattle.headers.specs.Headers.{headerOf}
-use Rattle.fields.specs.Field.{reading, refusedWith, readHeader, readField}
+use Rattle.fields.specs.Field.{readField}
+use Rattle.fields.specs.Order.{reading, refusedWith, readHeader, readInOrder}
+use Rattle.fields.proofs.InOrder.{read-is}
 use Rattle.answers.proofs.Room.{answer-fits}
 use Rattle.answers.specs.Answers.{extremeBytes, utilisedBytes, answerBytes, answerRoom}
 use Rattle.fields.specs.Readings.{FieldRead, ReadWithin}
@@ -42,14 +44,17 @@ header-room (Field tag len) input room s g e = record {
   answer = let a : length (answerBytes (readHeader (Field tag len) input s .answer)) ≤ answerRoom = answer-fits (readHeader (Field tag len) input s .answer) in omega arith;
 }
 
-read-room : (input : List ℕ) (room : ℕ) (s : Sheet) → Fits input room (readField input room s)
-unfolding readField answerBytes
-read-room input room s =
+order-room : (input : List ℕ) (room : ℕ) (s : Sheet) → Fits input room (readInOrder input room s)
+unfolding readInOrder answerBytes
+order-room input room s =
     ⊎-elim (λ l. subst outcome (sym (lt-ltb room answerRoom l)) (record { consumed = omega arith; written = refl; answer = omega arith }))
     (λ g. subst outcome (sym (le-ltb room answerRoom g)) (header-room (headerOf input) input room s g refl)) (lt-or-ge room answerRoom)
   where
     outcome : Bool → Type 0
     outcome b = Fits input room (cond b (reading 0 (refusedWith 14 s)) (readHeader (headerOf input) input s))
+
+read-room : (input : List ℕ) (room : ℕ) (s : Sheet) → Fits input room (readField input room s)
+read-room input room s = subst (Fits input room) (sym (read-is input room s)) (order-room input room s)
 
 over-long : (w o : List ℕ) → length w ≤ length o → length (over w o) ≡ length o
 over-long w o h = ap length (sym (front w o h)) ∙ put-long w o 0 (refl, refl)

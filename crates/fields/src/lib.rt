@@ -9,7 +9,9 @@ use sheet::Sheet;
 ghost use mathlib.Core.Path.{_≡_};
 ghost use Rattle.fields.specs.Readings.{FieldRead, ReadWithin, wholeReading};
 ghost use Rattle.sheet.specs.Parts.{whole, wholeOf};
-ghost use Rattle.fields.specs.Field.{runOf, fieldOf};
+ghost use mathlib.Core.Bool.{false};
+ghost use Rattle.fields.specs.Tags.{unknownTag};
+ghost use Rattle.fields.specs.Order.{runOf, fieldOf};
 ghost use Rattle.sheet.specs.Range.{InRange};
 
 pub struct Reading {
@@ -45,7 +47,7 @@ pub fn read_field(sheet: Sheet, input: &[u8], out: &mut [u8]) -> Reading
 
 // A field of known tag and right length, on a sheet whose effects are lent.
 fn run_in(rest: Rest, effects: &mut Effects, tag: u8, body: &[u8]) -> AnsweredRest
-    requires { ⌜ InRange (whole rest (now effects)) ⌝ }
+    requires { ⌜ InRange (whole rest (now effects)) × (unknownTag tag ≡ false) ⌝ }
     ensures { λ r. ⌜ wholeOf r (now (effects .exit)) ≡ runOf (whole rest (now (effects .entry))) tag (now (body .entry)) ⌝ }
 {
     let b0 = wire::byte(body, 0);

@@ -1,8 +1,8 @@
 -- What follows from no refusal due, and that what fits is not refused.
 -- Assumes nothing.
 use Prim.Native.Nat.{ℕ, zero, suc, _-_, _≤_, _<_}
-use mathlib.Core.Path.{_≡_, refl, ap, _∙_}
-use mathlib.Core.Bool.{Bool, true, false, cond, _||_}
+use mathlib.Core.Path.{_≡_, refl, sym, ap, _∙_}
+use mathlib.Core.Bool.{Bool, true, false, cond, not, _||_}
 use native.Mathlib.Omega.{arith}
 use borrow.Author.Tests.{eq-eqb, ne-eqb, le-ltb, ltb-false, eqb-true, eqb-false}
 use lib.Dec.{ltb, eqb, lit<}
@@ -19,10 +19,10 @@ pub none-due : (t : Bool) (n r : ℕ) → 0 < n → cond t n r ≡ 0 → (t ≡ 
 none-due true n r h e = absurd (let z : n ≡ 0 = e in omega arith)
 none-due false n r h e = (refl, e)
 
--- a last refusal that is due unless a test holds
-pub unless-due : (t : Bool) (n : ℕ) → 0 < n → cond t 0 n ≡ 0 → t ≡ true
-unless-due true n h e = refl
-unless-due false n h e = absurd (let z : n ≡ 0 = e in omega arith)
+-- the opposite of a test
+opposite : (t : Bool) → not t ≡ false → t ≡ true
+opposite true e = refl
+opposite false e = sym e
 
 -- no test of two holds
 neither : (a b : Bool) → (a || b) ≡ false → (a ≡ false) × (b ≡ false)
@@ -90,7 +90,7 @@ fill-range held case kind e =
       case = below 31 case (a .0);
       some = k .0;
       kind = k .1;
-      empty = eqb-true held 0 (unless-due (eqb held 0) 11 (lit< tt) (b .1));
+      empty = eqb-true held 0 (opposite (eqb held 0) (none-due (not (eqb held 0)) 11 _ (lit< tt) (b .1) .0));
     }
 
 pub effects-range : (held case station n y z : ℕ) → dueEffectsAt held case station n y z ≡ 0 → EffectsFit held case station n y z

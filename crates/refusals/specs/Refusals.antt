@@ -1,7 +1,8 @@
--- 01, 'Answer fields': the refusals on body values, from first to last, and then 11, 12 or 13. Each definition gives the number of
--- the first refusal that is due, or 0.
+-- 01, 'Answer fields': the refusals on body values, from first to last, and then 11, 12 or 13, as a list for
+-- each tag.
 use Prim.Native.Nat.{ℕ, _-_}
-use mathlib.Core.Bool.{Bool, cond, _||_}
+use mathlib.Core.Bool.{Bool, cond, not, _||_}
+use mathlib.Core.List.{List, [], _∷_}
 use lib.Dec.{ltb, eqb}
 use lib.IntN.{natAbs}
 use Rattle.wire.specs.Bytes.{signed16}
@@ -32,37 +33,70 @@ kindOutside n = unknown (classOf n)
 abbrev pub methodOutside : ℕ → Bool
 methodOutside n = eqb n 0 || ltb 2 n
 
--- tag 01: method, live option, zone
-unfoldable pub dueSettings : ℕ → ℕ → ℕ → ℕ
-dueSettings method live zone = cond (methodOutside method) 4 (cond (ltb 1 live) 4 (cond (ltb 2 zone) 4 0))
+-- a refusal, and whether it is due
+pub record Refusal : Type 0 where
+  pub due : Bool
+  pub number : ℕ
 
--- tag 02: case, kind; held is the kind at the place
-unfoldable pub dueFillAt : ℕ → ℕ → ℕ → ℕ
-dueFillAt held case kind = cond (caseOutside case) 5 (cond (kindOutside kind) 7 (cond (eqb held 0) 0 11))
+abbrev pub on : Bool → ℕ → Refusal
+on due number = record { due = due; number = number }
+
+-- the number of the first that is due, 0 where none is
+abbrev pub firstDue : List Refusal → ℕ
+firstDue [] = 0
+firstDue (r ∷ rs) = cond (r .due) (r .number) (firstDue rs)
+
+-- tag 01: method, live option, zone
+abbrev pub settingsRefusals : (method live zone : ℕ) → List Refusal
+settingsRefusals method live zone = on (methodOutside method) 4 ∷ on (ltb 1 live) 4 ∷ on (ltb 2 zone) 4 ∷ []
+
+-- tag 02: case, kind; held is the kind at the place, 0 where it is empty
+abbrev pub fillRefusals : (held case kind : ℕ) → List Refusal
+fillRefusals held case kind = on (caseOutside case) 5 ∷ on (kindOutside kind) 7 ∷ on (not (eqb held 0)) 11 ∷ []
 
 -- tag 03: case, station, N, My, Mz
-unfoldable pub dueEffectsAt : ℕ → ℕ → ℕ → ℕ → ℕ → ℕ → ℕ
-dueEffectsAt held case station n y z =
-    cond (caseOutside case) 5
-    (cond (stationOutside station) 6
-    (cond (effectOutside n) 9
-    (cond (effectOutside y) 9
-    (cond (effectOutside z) 9
-    (cond (eqb held 0) 12 0)))))
+abbrev pub effectsRefusals : (held case station n y z : ℕ) → List Refusal
+effectsRefusals held case station n y z =
+    on (caseOutside case) 5 ∷ on (stationOutside station) 6
+    ∷ on (effectOutside n) 9 ∷ on (effectOutside y) 9 ∷ on (effectOutside z) 9
+    ∷ on (eqb held 0) 12
+    ∷ []
 
 -- tag 04: case
-unfoldable pub dueEmptyAt : ℕ → ℕ → ℕ
-dueEmptyAt held case = cond (caseOutside case) 5 (cond (eqb held 0) 12 0)
+abbrev pub emptyRefusals : (held case : ℕ) → List Refusal
+emptyRefusals held case = on (caseOutside case) 5 ∷ on (eqb held 0) 12 ∷ []
 
 -- tag 05: station, three capacities
-unfoldable pub dueCapacities : ℕ → ℕ → ℕ → ℕ → ℕ
-dueCapacities station n y z =
-    cond (stationOutside station) 6 (cond (capacityOutside n) 10 (cond (capacityOutside y) 10 (cond (capacityOutside z) 10 0)))
+abbrev pub capacitiesRefusals : (station n y z : ℕ) → List Refusal
+capacitiesRefusals station n y z =
+    on (stationOutside station) 6 ∷ on (capacityOutside n) 10 ∷ on (capacityOutside y) 10 ∷ on (capacityOutside z) 10 ∷ []
 
 -- tag 06: station, component
-unfoldable pub dueExtremes : ℕ → ℕ → ℕ
-dueExtremes station component = cond (stationOutside station) 6 (cond (componentOutside component) 8 0)
+abbrev pub extremesRefusals : (station component : ℕ) → List Refusal
+extremesRefusals station component = on (stationOutside station) 6 ∷ on (componentOutside component) 8 ∷ []
 
 -- tag 07: station; held is its first capacity, since it has all three or none
-unfoldable pub dueUtilisationAt : ℕ → ℕ → ℕ
-dueUtilisationAt held station = cond (stationOutside station) 6 (cond (eqb held 0) 13 0)
+abbrev pub utilisationRefusals : (held station : ℕ) → List Refusal
+utilisationRefusals held station = on (stationOutside station) 6 ∷ on (eqb held 0) 13 ∷ []
+
+-- the first of each
+unfoldable pub dueSettings : (method live zone : ℕ) → ℕ
+dueSettings method live zone = firstDue (settingsRefusals method live zone)
+
+unfoldable pub dueFillAt : (held case kind : ℕ) → ℕ
+dueFillAt held case kind = firstDue (fillRefusals held case kind)
+
+unfoldable pub dueEffectsAt : (held case station n y z : ℕ) → ℕ
+dueEffectsAt held case station n y z = firstDue (effectsRefusals held case station n y z)
+
+unfoldable pub dueEmptyAt : (held case : ℕ) → ℕ
+dueEmptyAt held case = firstDue (emptyRefusals held case)
+
+unfoldable pub dueCapacities : (station n y z : ℕ) → ℕ
+dueCapacities station n y z = firstDue (capacitiesRefusals station n y z)
+
+unfoldable pub dueExtremes : (station component : ℕ) → ℕ
+dueExtremes station component = firstDue (extremesRefusals station component)
+
+unfoldable pub dueUtilisationAt : (held station : ℕ) → ℕ
+dueUtilisationAt held station = firstDue (utilisationRefusals held station)

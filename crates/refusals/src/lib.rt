@@ -68,7 +68,7 @@ pub fn due_settings(method: u8, live: u8, zone: u8) -> u8
 pub fn due_fill(case: u8, kind: u8, held: u8) -> u8
     ensures { λ r. ⌜ r ≡ dueFillAt held case kind ⌝ }
 {
-    let d = first(held == 0, 0, 11);
+    let d = first(held != 0, 11, 0);
     let d = first(kind_outside(kind), 7, d);
     first(LAST_CASE < case, 5, d)
 }

@@ -1,7 +1,7 @@
 -- A field at the front of bytes is read by itself, and runs of fields follow one another.
 -- Assumes nothing.
 use Prim.Native.Nat.{ℕ, zero, suc, _+_, _-_, _≤_, _<_}
-use mathlib.Core.Path.{_≡_, refl, ap}
+use mathlib.Core.Path.{_≡_, refl, ap, _∙_}
 use mathlib.Core.List.{List, [], _∷_, _++_, append-assoc}
 use mathlib.Core.Bool.{Bool, true, false, cond}
 use native.Mathlib.Omega.{arith}
@@ -15,8 +15,10 @@ use Rattle.sheet.specs.declared.Answered.{Answered}
 use Rattle.headers.specs.declared.Header.the-variants.{Field}
 use Rattle.fields.specs.declared.Reading.{Reading}
 use Rattle.headers.specs.Headers.{longestBody, headerOf}
-use Rattle.fields.specs.Field.{fieldOf, readHeader, readField, reading}
+use Rattle.fields.specs.Field.{readField}
+use Rattle.fields.specs.Order.{readInOrder, fieldOf, readHeader, reading}
 use Rattle.fields.specs.Readings.{ReadThrough, field}
+use Rattle.fields.proofs.InOrder.{read-is}
 use Rattle.saving.specs.Saved.{upTo}
 use Rattle.answers.specs.Answers.{answerRoom}
 
@@ -41,9 +43,12 @@ module _ (tag : ℕ) (body rest : List ℕ) where
       let c : length body ≤ length bytes - 3 = omega arith in
       rw (le-ltb (length bytes) 3 a, w, le-ltb longestBody (length body) b, le-ltb (length bytes - 3) (length body) c)
 
+  front-in-order : (room : ℕ) (s : Sheet) {a : Answered} → answerRoom ≤ room → length body < 256 → fieldOf s tag body ≡ a → readInOrder bytes room s ≡ reading (3 + length body) a
+  unfolding readInOrder readHeader
+  front-in-order room s g h e = rw (le-ltb room answerRoom g, whole-header h, take-append-seam body rest, e)
+
   pub front-read : (room : ℕ) (s : Sheet) {a : Answered} → answerRoom ≤ room → length body < 256 → fieldOf s tag body ≡ a → readField bytes room s ≡ reading (3 + length body) a
-  unfolding readField readHeader
-  front-read room s g h e = rw (le-ltb room answerRoom g, whole-header h, take-append-seam body rest, e)
+  front-read room s g h e = read-is bytes room s ∙ front-in-order room s g h e
 
   rest-left : drop (3 + length body) bytes ≡ rest
   rest-left =

@@ -2,7 +2,8 @@
 -- Assumes nothing.
 use mathlib.Core.Path.{sym, _∙_}
 use borrow.Author.Tests.{eq-eqb, ne-eqb}
-use Rattle.fields.specs.Field.{fieldOf}
+use Rattle.fields.specs.Order.{fieldOf}
+use Rattle.fields.proofs.InOrder.{known-tag}
 use borrow.Author.Needs.{needs}
 use Rattle.fields.proofs.field_in.Statement.{statement}
 use Rattle.fields.proofs.field_in.Tie as tie
@@ -11,7 +12,9 @@ due-header-requires : tie.Need-due-header-requires
 due-header-requires c κs = search needs
 
 run-in-requires : tie.Need-run-in-requires
-run-in-requires c κs = search needs
+run-in-requires c κs =
+    let d = c .before .before in
+    (search needs, known-tag _ _ (sym (d .due-header .ensures) ∙ c .before .if1 .taken))
 
 returns : tie.Need-returns
 unfolding fieldOf

@@ -1,10 +1,13 @@
 -- `fields::run_in` meets its contract: each arm of the match is that of the table of tags.
 -- Assumes nothing.
-use mathlib.Core.Path.{_∙_, ap}
-use borrow.Author.Tests.{ne-eqb}
+use mathlib.Core.Path.{_≡_, sym, _∙_, ap}
 use Rattle.sheet.specs.Looks.{lookedExtremes, lookedUtilisation}
 use Rattle.sheet.specs.Parts.{whole}
-use Rattle.fields.specs.Field.{runOf}
+use Rattle.refusals.specs.Refusals.{dueSettings, dueFillAt, dueEffectsAt, dueEmptyAt, dueCapacities}
+use Rattle.sheet.specs.Edits.{tried}
+use Rattle.fields.specs.Order.{runOf}
+use Rattle.fields.proofs.InOrder.{last-tag}
+use Rattle.fields.proofs.Laws.{extremes-ran, utilisation-ran}
 use borrow.Author.Needs.{needs}
 use Rattle.fields.proofs.run_in.Statement.{statement}
 use Rattle.fields.proofs.run_in.Tie as tie
@@ -58,39 +61,38 @@ look-utilisation-requires : tie.Need-look-utilisation-requires
 look-utilisation-requires c κs = search needs
 
 returns : tie.Need-returns
-unfolding runOf
+unfolding runOf tried dueSettings
 returns c = rw (c .before .before .before .match .keys1) (c .restart .ensures ∙ (cc))
 
 returns-2 : tie.Need-returns-2
-unfolding runOf
+unfolding runOf tried dueFillAt
 returns-2 c = rw (c .before .before .match .keys2) (c .fill .ensures ∙ (cc))
 
 returns-3 : tie.Need-returns-3
-unfolding runOf
+unfolding runOf tried dueEffectsAt
 returns-3 c = rw (c .before .before .before .before .before .match .keys3) (c .replace-effects .ensures ∙ (cc))
 
 returns-4 : tie.Need-returns-4
-unfolding runOf
+unfolding runOf tried dueEmptyAt
 returns-4 c = rw (c .before .before .match .keys4) (c .empty .ensures ∙ (cc))
 
 returns-5 : tie.Need-returns-5
-unfolding runOf
+unfolding runOf tried dueCapacities
 returns-5 c = rw (c .before .before .before .before .match .keys5) (c .replace-capacities .ensures _ ∙ (cc))
 
 returns-6 : tie.Need-returns-6
 unfolding runOf lookedExtremes
 returns-6 c =
     let s = c .before .before .before .before .before .before .before in
-    rw (c .before .before .before .match .keys6) (ap (λ x. record { answer = x; sheet = whole (s .args .rest) (s .args .effects .now) }) (c .look-extremes .ensures) ∙ (cc))
+    rw (c .before .before .before .match .keys6) (ap (λ x. record { answer = x; sheet = whole (s .args .rest) (s .args .effects .now) }) (c .look-extremes .ensures) ∙ (cc) ∙ sym (extremes-ran (whole (s .args .rest) (s .args .effects .now)) (s .args .body .now)))
 
 returns-7 : tie.Need-returns-7
 unfolding runOf lookedUtilisation
 returns-7 c =
     let s = c .before .before .before .before .before .before .before in
     let r = c .before .before .before .match .rest in
-    simp
-    (ne-eqb _ _ (r .0 .0 .0 .0 .0 .1), ne-eqb _ _ (r .0 .0 .0 .0 .1), ne-eqb _ _ (r .0 .0 .0 .1), ne-eqb _ _ (r .0 .0 .1), ne-eqb _ _ (r .0 .1), ne-eqb _ _ (r .1))
-    (ap (λ x. record { answer = x; sheet = whole (s .args .rest) (s .args .effects .now) }) (c .look-utilisation .ensures) ∙ (cc))
+    let seven : s .args .tag ≡ 7 = last-tag (s .args .tag) (s .pre .1) (r .0 .0 .0 .0 .0 .1) (r .0 .0 .0 .0 .1) (r .0 .0 .0 .1) (r .0 .0 .1) (r .0 .1) (r .1) in
+    rw seven (ap (λ x. record { answer = x; sheet = whole (s .args .rest) (s .args .effects .now) }) (c .look-utilisation .ensures) ∙ (cc) ∙ sym (utilisation-ran (whole (s .args .rest) (s .args .effects .now)) (s .args .body .now)))
 
 pub run-in-spec : {M : Type 1} → statement M
 run-in-spec =

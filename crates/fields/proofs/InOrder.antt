@@ -1,0 +1,115 @@
+-- A reading by the order of the reader is the reading by the table of tags.
+-- Assumes nothing.
+use Prim.Native.Nat.{ℕ, _+_, _-_, _≤_, _<_}
+use native.Mathlib.Omega.{arith}
+use mathlib.Core.Path.{_≡_, refl, sym, ap, _∙_}
+use mathlib.Core.List.{List, [], _∷_}
+use mathlib.Core.Logic.{⊎-elim, _⊎_, inl, inr}
+use mathlib.Core.Bool.{Bool, true, false, cond, not, _||_}
+use borrow.Author.Tests.{eqb-false, ltb-false}
+use lib.Dec.{eqb, ltb}
+use lib.ListN.{length, take, drop, length-take, length-drop}
+use Rattle.wire.specs.Bytes.{byteAt, wordAt}
+use Rattle.wire.proofs.Cases.{either}
+use Rattle.standard.proofs.Table.{tabulate, same-at}
+use Rattle.refusals.specs.Refusals.{on, firstDue}
+use Rattle.refusals.proofs.Fits.{inside}
+use Rattle.sheet.specs.declared.Sheet.{Sheet}
+use Rattle.sheet.specs.declared.Answer.{Answer}
+use Rattle.sheet.specs.Looks.{unlessDue}
+use Rattle.headers.specs.declared.Header.{Header}
+use Rattle.headers.specs.declared.Header.the-variants.{Field, Short}
+use Rattle.headers.specs.Headers.{longestBody, headerOf, lengthOf, dueHeader}
+use Rattle.headers.proofs.Whole.{header-fits}
+use Rattle.answers.specs.Answers.{answerRoom, answerBytes}
+use Rattle.fields.specs.declared.Reading.{Reading}
+use Rattle.fields.specs.Tags.{unknownTag, tagAt, tagOf, lengthIn, bodyOf, isCut, due}
+use Rattle.fields.specs.Field.{readField}
+use Rattle.fields.specs.Order.{runOf, fieldOf, reading, refusedWith, readHeader, readInOrder}
+
+-- ---- the header's refusals
+sizes : tabulate lengthOf 1 7 ≡ tabulate (λ tag. tagAt tag .size) 1 7
+unfolding lengthOf
+sizes = refl
+
+by-tag : (u v l l′ : Bool) → (u ≡ false → v ≡ false → l ≡ l′) → _≡_ {A = ℕ} (cond u 1 (cond v 1 (cond l 0 2))) (cond (u || v) 1 (cond (not l′) 2 0))
+by-tag true v l l′ h = refl
+by-tag false true l l′ h = refl
+by-tag false false true true h = refl
+by-tag false false false false h = refl
+by-tag false false true false h = absurd (let z : _≡_ {A = ℕ} 0 1 = cc (h refl refl) in omega arith)
+by-tag false false false true h = absurd (let z : _≡_ {A = ℕ} 0 1 = cc (h refl refl) in omega arith)
+
+header-is : (tag len : ℕ) → dueHeader tag len ≡ firstDue (on (unknownTag tag) 1 ∷ on (not (eqb len (tagAt tag .size))) 2 ∷ [])
+unfolding dueHeader
+header-is tag len =
+    by-tag (eqb tag 0) (ltb 7 tag) (eqb len (lengthOf tag)) (eqb len (tagAt tag .size))
+    (λ a b. ap (eqb len) (same-at lengthOf (λ t. tagAt t .size) 1 7 tag sizes (omega (arith, eqb-false tag 0 a)) (omega (arith, ltb-false 7 tag b))))
+
+no-test : (u v : Bool) → _≡_ {A = ℕ} (cond u 1 (cond v 2 0)) 0 → u ≡ false
+no-test true v e = absurd (let z : _≡_ {A = ℕ} 1 0 = e in omega arith)
+no-test false v e = refl
+
+pub known-tag : (tag len : ℕ) → dueHeader tag len ≡ 0 → unknownTag tag ≡ false
+known-tag tag len e = no-test (unknownTag tag) (not (eqb len (tagAt tag .size))) (sym (header-is tag len) ∙ e)
+
+-- the arm of the match that is left
+pub last-tag : (tag : ℕ) → unknownTag tag ≡ false → (tag ≡ 1 → ⊥) → (tag ≡ 2 → ⊥) → (tag ≡ 3 → ⊥) → (tag ≡ 4 → ⊥) → (tag ≡ 5 → ⊥) → (tag ≡ 6 → ⊥) → tag ≡ 7
+last-tag tag e n1 n2 n3 n4 n5 n6 = let k = inside tag 7 e in omega (arith, k .0, k .1)
+
+-- ---- the header
+header-cases : (a b c : Bool) (h : Header) →
+    (((a || (b || c)) ≡ true) × (cond a Short (cond b Short (cond c Short h)) ≡ Short))
+    ⊎ (((a || (b || c)) ≡ false) × (cond a Short (cond b Short (cond c Short h)) ≡ h))
+header-cases true b c h = inl (refl, refl)
+header-cases false true c h = inl (refl, refl)
+header-cases false false true h = inl (refl, refl)
+header-cases false false false h = inr (refl, refl)
+
+by-header : (input : List ℕ) → ((isCut input ≡ true) × (headerOf input ≡ Short)) ⊎ ((isCut input ≡ false) × (headerOf input ≡ Field (tagOf input) (lengthIn input)))
+unfolding headerOf
+by-header input =
+    header-cases (ltb (length input) 3) (ltb longestBody (wordAt input 1)) (ltb (length input - 3) (wordAt input 1)) (Field (byteAt input 0) (wordAt input 1))
+
+-- 1 and 2 come before the refusals of the tag
+by-header-refusals : (u v : Bool) (n : ℕ) (a : Answer) (s s′ : Sheet) (k : ℕ) →
+    _≡_ {A = Reading} (record {
+      answer = unlessDue (cond u 1 (cond v 2 n)) a;
+      sheet = cond (eqb (cond u 1 (cond v 2 n)) 0) s′ s;
+      consumed = k;
+      written = length (answerBytes (unlessDue (cond u 1 (cond v 2 n)) a));
+    })
+    (reading k
+    (cond (eqb (cond u 1 (cond v 2 0)) 0) (record { answer = unlessDue n a; sheet = cond (eqb n 0) s′ s }) (refusedWith (cond u 1 (cond v 2 0)) s)))
+by-header-refusals true v n a s s′ k = refl
+by-header-refusals false true n a s s′ k = refl
+by-header-refusals false false n a s s′ k = refl
+
+module _ (input : List ℕ) (room : ℕ) (s : Sheet) where
+  -- under the room that a field asks for
+  full : ltb room answerRoom ≡ true → readField input room s ≡ readInOrder input room s
+  unfolding readField readInOrder due
+  full r = rw r
+
+  -- a field that is cut
+  short : ltb room answerRoom ≡ false → isCut input ≡ true → headerOf input ≡ Short → readField input room s ≡ readInOrder input room s
+  unfolding readField readInOrder due readHeader
+  short r k h = rw (r, k, h)
+
+  -- a whole field
+  body-long : headerOf input ≡ Field (tagOf input) (lengthIn input) → length (bodyOf input) ≡ lengthIn input
+  body-long h =
+      let f : 3 + lengthIn input ≤ length input = header-fits input (tagOf input) (lengthIn input) refl h in
+      simp (length-take, length-drop) (omega arith)
+
+  whole : ltb room answerRoom ≡ false → isCut input ≡ false → headerOf input ≡ Field (tagOf input) (lengthIn input) → readField input room s ≡ readInOrder input room s
+  unfolding readField readInOrder due readHeader fieldOf runOf
+  whole r k h =
+      let b = bodyOf input in
+      let g = tagAt (tagOf input) in
+      rw (r, k, h, body-long h, header-is (tagOf input) (lengthIn input))
+      (by-header-refusals (unknownTag (tagOf input)) (not (eqb (lengthIn input) (g .size))) (firstDue (g .refusals s b)) (g .answer s b) s (g .after s b) (3 + lengthIn input))
+
+  pub read-is : readField input room s ≡ readInOrder input room s
+  read-is =
+      ⊎-elim full (λ r. ⊎-elim (λ c. short r (c .0) (c .1)) (λ c. whole r (c .0) (c .1)) (by-header input)) (either (ltb room answerRoom))
