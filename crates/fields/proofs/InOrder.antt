@@ -66,7 +66,7 @@ header-cases false true c h = inl (refl, refl)
 header-cases false false true h = inl (refl, refl)
 header-cases false false false h = inr (refl, refl)
 
-by-header : (input : List ℕ) → ((isCut input ≡ true) × (headerOf input ≡ Short)) ⊎ ((isCut input ≡ false) × (headerOf input ≡ Field (tagOf input) (lengthIn input)))
+pub by-header : (input : List ℕ) → ((isCut input ≡ true) × (headerOf input ≡ Short)) ⊎ ((isCut input ≡ false) × (headerOf input ≡ Field (tagOf input) (lengthIn input)))
 unfolding headerOf
 by-header input =
     header-cases (ltb (length input) 3) (ltb longestBody (wordAt input 1)) (ltb (length input - 3) (wordAt input 1)) (Field (byteAt input 0) (wordAt input 1))
