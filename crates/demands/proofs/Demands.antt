@@ -37,7 +37,7 @@ use Rattle.fields.proofs.Refused.{refused-unchanged}
 use Rattle.fields.proofs.Within.{within}
 use Rattle.saving.proofs.Framing.{front-read}
 use Rattle.saving.proofs.RoundTrip.{round-trip, read-unique, same-bytes}
-use Rattle.demands.specs.Demands.{Given, sheetFrom, Made, ReadOn, Readings, none, next, given, worksOut, Demand1, Demand2, lookExtremes, lookUtilisation, ExtremesAnswered, UtilisationAnswered, Demand3}
+use Rattle.demands.specs.Demands.{Given, sheetFrom, Made, ReadOn, Readings, none, next, given, worksOut, Demand1, Demand2, lookExtremes, lookUtilisation, ExtremesAnswered, UtilisationAnswered, Demand3, Demands}
 use Rattle.answers.specs.Answers.{answerRoom}
 
 -- ---- a factored effect depends on the effects of the 32 cases alone
@@ -192,3 +192,6 @@ module _ (ms : List Made) {s : Sheet} (r : Readings freshSheet ms s) where
 
   pub demand-3 : Demand3 (worksOut ms) s
   demand-3 = subst (Demand3 (worksOut ms)) (sym (works-out r)) (third (worksOut ms) (worked-in-range ms))
+
+pub demands : Demands
+demands ms s r = (demand-1 ms r, demand-2 ms r, demand-3 ms r)

@@ -1,4 +1,4 @@
--- P1 to P10 hold: each is computed once over the table, and the computed extremes are those over all admissible combinations.
+-- The frames worked by hand hold: each is computed once over the table, and the computed extremes are those over all admissible combinations.
 -- Assumes nothing.
 use Prim.Native.Nat.{ℕ, _≤_}
 use native.Mathlib.Omega.{arith}
@@ -24,7 +24,7 @@ use Rattle.envelope.specs.Range.{kindOf, listed}
 use Rattle.envelope.specs.Envelope.{bestFrom, bestAmong, bestOver, bestOf, governingOf, extremeIn, extremeOf, negatedOf, patternOf, peakOf, utilisedOf}
 use Rattle.envelope.proofs.Maximum.{namedBy, extreme-maximum, extreme-minimum}
 use Rattle.envelope.proofs.Utilisation.{namedIn, utilisation-greatest}
-use Rattle.demands.specs.Worked.{Frame, Claim, maximum, minimum, maximumInRow, utilisation, onlyN, Holds, Entry, worked, All}
+use Rattle.demands.specs.Worked.{Frame, Claim, maximum, minimum, maximumInRow, utilisation, onlyN, Holds, Entry, worked, All, WorkedByHand}
 
 same : ℤ → ℤ → Bool
 same (pos a) (pos b) = eqb a b
@@ -142,5 +142,5 @@ table-checks : T (checks worked)
 unfolding checks fair known meets same alike extremeIn governingOf bestOf bestOver bestAmong bestFrom rowMaximum greatestOf leastOf lowerOf groupOf classOf factorOf lowOf plainRows floodRows openRows patternOf peakOf utilisedOf denominatorOf sum most
 table-checks = tt
 
-pub worked-by-hand : All worked
+pub worked-by-hand : WorkedByHand
 worked-by-hand = each-holds worked table-checks

@@ -107,3 +107,8 @@ pub record Demand3 (w s : Sheet) : Type 0 where
       m .input ≡ lookExtremes station component rest → ReadOn s m → ExtremesAnswered w station component (m .result)
   pub utilisation : (station : ℕ) → station < 16 → 0 < capacityAt w station 0 → (m : Made) (rest : List ℕ) → answerRoom ≤ length (m .out) →
       m .input ≡ lookUtilisation station rest → ReadOn s m → UtilisationAnswered w station (m .result)
+
+-- The three demands. After any list of readings, the first on a fresh sheet and each later one on the sheet that the one before
+-- returned, they hold of the sheet worked out from the list and of the sheet that the last reading returned.
+abbrev pub Demands : Type 0
+Demands = (ms : List Made) (s : Sheet) → Readings freshSheet ms s → Demand1 (worksOut ms) s × Demand2 (worksOut ms) s × Demand3 (worksOut ms) s

@@ -1,4 +1,5 @@
--- 01, 'Frames worked by hand': cases P1 to P10, at one station with N only, as one table.
+-- 01, 'Frames worked by hand': cases P1 to P10, at one station with N only, as one table; after them two cases of each kind that
+-- acts at most once.
 use Prim.Native.Nat.{ℕ}
 use mathlib.Core.Bool.{Bool, true, false, cond}
 use mathlib.Core.List.{List, [], _∷_}
@@ -103,8 +104,15 @@ worked =
     ∷ (frame 2 0 0 (L ∷ E ∷ S ∷ []) (pos 40 ∷ pos 20 ∷ pos 8 ∷ []) says maximumInRow (pos 46500) 28)
     ∷ (frame 1 0 0 (F ∷ W ∷ []) (minus 30 ∷ pos 100 ∷ []) says maximumInRow (pos 100000) 7)
     ∷ (frame 1 0 0 (S ∷ R ∷ []) (pos 100 ∷ pos 100 ∷ []) says maximum (pos 160000))
+    ∷ (frame 1 0 0 (E ∷ E ∷ []) (pos 100 ∷ pos 100 ∷ []) says maximum (pos 100000))
+    ∷ (frame 1 0 0 (W ∷ W ∷ []) (pos 100 ∷ pos 100 ∷ []) says maximum (pos 100000))
+    ∷ (frame 1 0 1 (Fa ∷ Fa ∷ []) (pos 100 ∷ pos 100 ∷ []) says maximum (pos 200000))
     ∷ []
 
 abbrev pub All : List Entry → Type 0
 All [] = Unit {0}
 All (x ∷ xs) = Holds (x .of) (x .claim) × All xs
+
+-- every entry of the table holds
+abbrev pub WorkedByHand : Type 0
+WorkedByHand = All worked
