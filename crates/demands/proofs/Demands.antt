@@ -37,6 +37,7 @@ use Rattle.fields.proofs.Refused.{refused-unchanged}
 use Rattle.fields.proofs.Within.{within}
 use Rattle.saving.proofs.Framing.{front-read}
 use Rattle.saving.proofs.RoundTrip.{round-trip, read-unique, same-bytes}
+use Rattle.demands.proofs.Due.{due-most, none-due, due-refused, refused-due, full-consumed, short-consumed, field-consumed}
 use Rattle.demands.specs.Demands.{Given, sheetFrom, Made, ReadOn, Readings, none, next, given, worksOut, Demand1, Demand2, lookExtremes, lookUtilisation, ExtremesAnswered, UtilisationAnswered, Demand3, Demands}
 use Rattle.answers.specs.Answers.{answerRoom}
 
@@ -145,8 +146,26 @@ module _ (w : Sheet) (h : InRange w) where
   refused-not-accepted : (n : ℕ) → answer.Refused n ≡ answer.Accepted → ⊥
   refused-not-accepted n e = let z : _≡_ {A = ℕ} 0 1 = cc in omega arith
 
+  -- what the definition of a reading says of its answer and of its places
+  answer-of : (m : Made) → ReadOn w m → m .result .answer ≡ readField (m .input) (length (m .out)) w .answer
+  answer-of m f = ap (λ (r : Reading). r .answer) (f .reading)
+
+  consumed-of : (m : Made) → ReadOn w m → m .result .consumed ≡ readField (m .input) (length (m .out)) w .consumed
+  consumed-of m f = ap (λ (r : Reading). r .consumed) (f .reading)
+
   first : Demand1 w w
   first = record {
+    refused = λ m n f. (
+      λ e. refused-due (m .input) (length (m .out)) w n (sym (answer-of m f) ∙ e),
+      λ d. answer-of m f ∙ due-refused (m .input) (length (m .out)) w n (d .0) (d .1),
+    );
+    numbers = λ m f. due-most (m .input) (length (m .out)) w;
+    other = λ m f d. answer-of m f ∙ none-due (m .input) (length (m .out)) w d;
+    no-room = λ m f d.
+        let c = full-consumed (m .input) (length (m .out)) w d in
+        (consumed-of m f ∙ c .0, ap (λ (r : Reading). r .written) (f .reading) ∙ c .1);
+    cut = λ m f d. consumed-of m f ∙ short-consumed (m .input) (length (m .out)) w d;
+    field = λ m f a b. consumed-of m f ∙ field-consumed (m .input) (length (m .out)) w a b;
     unchanged = λ m n f e.
         ap (λ (r : Reading). r .sheet) (f .reading)
         ∙ refused-unchanged (m .input) (length (m .out)) w (λ a. refused-not-accepted n (sym e ∙ ap (λ (r : Reading). r .answer) (f .reading) ∙ a));

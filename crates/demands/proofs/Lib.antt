@@ -1,3 +1,3 @@
+pub mod Due
 pub mod Demands
 pub mod Worked
-pub mod Due

@@ -1,6 +1,7 @@
 -- The owner's three demands, about any list of readings.
-use Prim.Native.Nat.{ℕ, _≤_, _<_}
+use Prim.Native.Nat.{ℕ, _+_, _≤_, _<_}
 use mathlib.Core.Path.{_≡_}
+use mathlib.Core.Logic.{_↔_}
 use mathlib.Core.List.{List, [], _∷_, map}
 use lib.ListN.{length}
 use Rattle.wire.specs.Bytes.{over}
@@ -15,7 +16,8 @@ use Rattle.sheet.specs.Sheet.{freshSheet, kindAt, effectAt, capacityAt}
 use Rattle.sheet.specs.Looks.{capacitiesAt}
 use Rattle.sheet.specs.Range.{InRange}
 use Rattle.fields.specs.declared.Reading.{Reading}
-use Rattle.fields.specs.Field.{readField}
+use Rattle.fields.specs.Tags.{lengthIn, bodyOf, due}
+use Rattle.fields.specs.Field.{fieldTag, readField}
 use Rattle.answers.specs.Answers.{answerBytes, answerRoom}
 use Rattle.fields.specs.Readings.{FieldRead, ReadThrough}
 use Rattle.saving.specs.Saved.{savedBytes}
@@ -53,8 +55,21 @@ given m = record { input = m .input; room = length (m .out) }
 abbrev pub worksOut : List Made → Sheet
 worksOut ms = sheetFrom freshSheet (map given ms)
 
+-- the first refusal that is due on a reading, by its bytes and the length of its output, 0 where none is
+abbrev pub dueOn : Sheet → Made → ℕ
+dueOn w m = due (m .input) (length (m .out)) w
+
 -- Demand 1, of the readings that may follow: w is the sheet worked out, s the sheet returned.
 pub record Demand1 (w s : Sheet) : Type 0 where
+  -- a reading is refused with a number exactly when that refusal is due first
+  pub refused : (m : Made) (n : ℕ) → ReadOn s m → (m .result .answer ≡ answer.Refused n) ↔ ((dueOn w m ≡ n) × (n ≡ 0 → ⊥))
+  pub numbers : (m : Made) → ReadOn s m → dueOn w m ≤ 14
+  -- every other one is answered as its tag says, which is no refusal
+  pub other : (m : Made) → ReadOn s m → dueOn w m ≡ 0 → m .result .answer ≡ fieldTag (m .input) .answer w (bodyOf (m .input))
+  -- 14 consumes and writes nothing, 3 consumes all that is left, others the field
+  pub no-room : (m : Made) → ReadOn s m → dueOn w m ≡ 14 → (m .result .consumed ≡ 0) × (m .result .written ≡ 0)
+  pub cut : (m : Made) → ReadOn s m → dueOn w m ≡ 3 → m .result .consumed ≡ length (m .input)
+  pub field : (m : Made) → ReadOn s m → (dueOn w m ≡ 14 → ⊥) → (dueOn w m ≡ 3 → ⊥) → m .result .consumed ≡ 3 + lengthIn (m .input)
   -- a refusal leaves the sheet unchanged
   pub unchanged : (m : Made) (n : ℕ) → ReadOn s m → m .result .answer ≡ answer.Refused n → m .result .sheet ≡ w
   -- whatever is given, the reading comes to its end, within the input and the output, on a sheet that can be read on
