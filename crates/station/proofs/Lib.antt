@@ -1,2 +1,3 @@
 pub mod Products
 pub mod Named
+pub mod Promised

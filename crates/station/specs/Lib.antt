@@ -1,1 +1,2 @@
 pub mod Peaks
+pub mod Promises

@@ -3,6 +3,7 @@ ghost use Prim.Native.Nat.{_<_, _^_};
 ghost use Rattle.standard.specs.Combination.{caseCount, denominatorOf};
 ghost use Rattle.envelope.specs.Range.{kindOf, effectOf, StationInRange, EffectsInRange, CapacitiesInRange};
 ghost use Rattle.envelope.specs.Envelope.{extremesOf, signedBy, patternOf, utilisedOf};
+ghost use Rattle.station.specs.Promises.{KnownMethod, ExtremesGovern, UtilisationGoverns};
 ghost use Rattle.envelope.specs.Places.{Placed};
 ghost use Rattle.station.specs.Peaks.{PeakOf};
 use envelope::Extreme;
@@ -32,7 +33,7 @@ fn extreme(value: i64, row: usize, sets: Sets) -> Extreme
 // The maximum and the minimum of a component, from one pass over the cases.
 pub fn extremes_of(s: Settings, kinds: &[u8], effects: &[i16], component: usize) -> Extremes
     requires { ⌜ StationInRange (now kinds) (now effects) × (component < 3) ⌝ }
-    ensures { λ r. ⌜ r ≡ extremesOf s (kindOf (now (kinds .entry))) (λ k. effectOf (now (effects .entry)) k component) ⌝ }
+    ensures { λ r. ⌜ (r ≡ extremesOf s (kindOf (now (kinds .entry))) (λ k. effectOf (now (effects .entry)) k component)) × (KnownMethod s → ExtremesGovern s (kindOf (now (kinds .entry))) (λ k. effectOf (now (effects .entry)) k component) r) ⌝ }
 {
     let places = sums::places_of(kinds);
     let sums = sums::sums_of(&places, effects, component);
@@ -96,7 +97,7 @@ fn denominator_of(p: Capacities) -> u64
 // The utilisation of a station.
 pub fn utilisation_of(s: Settings, kinds: &[u8], effects: &[i16], p: Capacities) -> Utilised
     requires { ⌜ StationInRange (now kinds) (now effects) × CapacitiesInRange p ⌝ }
-    ensures { λ r. ⌜ r ≡ utilisedOf s (kindOf (now (kinds .entry))) (effectOf (now (effects .entry))) p ⌝ }
+    ensures { λ r. ⌜ (r ≡ utilisedOf s (kindOf (now (kinds .entry))) (effectOf (now (effects .entry))) p) × (KnownMethod s → UtilisationGoverns s (kindOf (now (kinds .entry))) (effectOf (now (effects .entry))) p r) ⌝ }
 {
     let places = sums::places_of(kinds);
     let q = peak_of(s, &places, effects, p);

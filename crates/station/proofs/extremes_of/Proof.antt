@@ -6,12 +6,15 @@ use native.Mathlib.Omega.{arith}
 use mathlib.Core.List.{List}
 use mathlib.Core.Path.{_≡_, refl, sym, ap, _∙_, subst}
 use lib.IntN.{ℤ, negℤ, natAbs}
+use lib.ListN.{List·getD-eq-default}
 use Rattle.integers.proofs.Machine.{back, read}
 use Rattle.integers.proofs.Signs.{abs-negated}
+use Rattle.standard.specs.Combination.{caseCount}
 use Rattle.standard.specs.Kinds.{kindCount}
 use Rattle.standard.specs.Rows.{rowCount}
 use Rattle.envelope.specs.declared.Best.{Best}
 use Rattle.envelope.specs.declared.Extreme.{Extreme}
+use Rattle.envelope.specs.declared.Extremes.{Extremes}
 use Rattle.envelope.specs.Range.{kindOf, effectOf, effectMost, EffectsInRange}
 use Rattle.envelope.specs.Envelope.{governingOf, extremeIn, negatedOf, extremesOf}
 use Rattle.envelope.proofs.Limits.{row-below, value-fits}
@@ -20,6 +23,7 @@ use Rattle.sums.proofs.Gathered.{summed}
 use Rattle.governing.specs.Ways.{Ready}
 use Rattle.governing.proofs.Ways.{forward-is, opposite-is, ready}
 use Rattle.naming.proofs.BestSets.{places-in-range, chosen-in-range}
+use Rattle.station.proofs.Promised.{extremes-govern}
 use Rattle.station.proofs.Named.{sets-fit, extreme-is, negated-extreme-is}
 use Rattle.station.proofs.extremes_of.Statement.{statement}
 use Rattle.station.proofs.extremes_of.Tie as tie
@@ -33,6 +37,9 @@ effect s k = effectOf (s .args .effects .now) k (s .args .component)
 
 below : (s : tie.Start) (k : ℕ) → kind s k < kindCount
 below s k = omega (arith, s .pre .0 .kinds-range k)
+
+past : (s : tie.Start) (k : ℕ) → caseCount ≤ k → kind s k ≡ 0
+past s k l = List·getD-eq-default (s .args .kinds .now) 0 (omega (arith, s .pre .0 .kinds-long))
 
 small : (s : tie.Start) (k : ℕ) → natAbs (effect s k) ≤ effectMost
 small s k = omega (arith, s .pre .0 .effects-range (k * 3 + s .args .component))
@@ -174,7 +181,9 @@ returns c =
     negated-extreme-is (s .args .s) (kind s) (below s) places held (λ k. negℤ (effect s k)) (u .toward2 .result .row) (y .sets-at2 .result) (y .sets-at2 .ensures) (c .extreme2 .result) (u .toward2 .result .value)
     (c .extreme2 .ensures .1) (c .extreme2 .ensures .2) (c .extreme2 .ensures .3) value
     ∙ ap (λ (b : Best). negatedOf (extremeIn (s .args .s) (kind s) (λ k. negℤ (effect s k)) b)) (least-is u) in
-    λ i. record { maximum = maximum i; minimum = minimum i }
+    let is : _≡_ {A = Extremes} (record { maximum = m .extreme .result; minimum = c .extreme2 .result }) (extremesOf (s .args .s) (kind s) (effect s)) =
+    λ i. record { maximum = maximum i; minimum = minimum i } in
+    (is, extremes-govern (s .args .s) (kind s) (past s) (effect s) _ is)
 
 pub extremes-of-spec : {M : Type 1} → statement M
 extremes-of-spec =

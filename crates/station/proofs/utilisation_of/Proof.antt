@@ -6,12 +6,15 @@ use native.Mathlib.Omega.{arith}
 use mathlib.Core.Path.{_≡_, refl, sym, ap, _∙_, subst}
 use lib.Dec.{leb}
 use lib.IntN.{ℤ, natAbs}
+use lib.ListN.{List·getD-eq-default}
 use Rattle.integers.proofs.Machine.{back, read}
+use Rattle.standard.specs.Combination.{caseCount}
 use Rattle.standard.specs.Kinds.{kindCount}
 use Rattle.standard.specs.Rows.{rowCount}
 use Rattle.envelope.specs.declared.Best.{Best}
 use Rattle.envelope.specs.declared.Extreme.{Extreme}
 use Rattle.envelope.specs.declared.Peak.{Peak}
+use Rattle.envelope.specs.declared.Utilised.{Utilised}
 use Rattle.envelope.specs.declared.Weights.{Weights}
 use Rattle.envelope.specs.Range.{kindOf, effectOf, EffectsInRange, WeightsInRange}
 use Rattle.envelope.specs.Envelope.{governingOf, extremeIn, weighed, patternOf, patternBest, peakOf, utilisedOf}
@@ -19,6 +22,7 @@ use Rattle.envelope.proofs.Limits.{row-below, value-fits, weighed-most}
 use Rattle.envelope.proofs.Patterns.{pattern-in-range}
 use Rattle.envelope.proofs.Utilisation.{peak-own}
 use Rattle.naming.proofs.BestSets.{places-in-range, chosen-in-range}
+use Rattle.station.proofs.Promised.{utilisation-governs}
 use Rattle.station.proofs.Named.{sets-fit, extreme-is}
 use borrow.Author.Needs.{needs}
 use Rattle.station.proofs.utilisation_of.Statement.{statement}
@@ -30,6 +34,9 @@ kind s = kindOf (s .args .kinds .now)
 
 abbrev effect : tie.Start → ℕ → ℕ → ℤ
 effect s = effectOf (s .args .effects .now)
+
+past : (s : tie.Start) (k : ℕ) → caseCount ≤ k → kind s k ≡ 0
+past s k l = List·getD-eq-default (s .args .kinds .now) 0 (omega (arith, s .pre .0 .kinds-long))
 
 below : (s : tie.Start) (k : ℕ) → kind s k < kindCount
 below s k = omega (arith, s .pre .0 .kinds-range k)
@@ -140,7 +147,16 @@ returns c =
     ∙ ap f (peak-is q) in
     let n : m .magnitude .result ≡ natAbs (f peak .value) =
     m .magnitude .ensures ∙ ap natAbs (back (x .extreme .result .value) (extreme-small x) ∙ ap (λ (z : Extreme). z .value) is) in
-    λ i. record { numerator = n i; denominator = c .denominator-of .ensures i; pass = leb (n i) (c .denominator-of .ensures i); row = is i .row; acting = is i .acting; low = is i .low }
+    let used : _≡_ {A = Utilised} (record {
+      numerator = m .magnitude .result;
+      denominator = c .denominator-of .result;
+      pass = leb (m .magnitude .result) (c .denominator-of .result);
+      row = x .extreme .result .row;
+      acting = x .extreme .result .acting;
+      low = x .extreme .result .low;
+    }) (utilisedOf (s .args .s) (kind s) (effect s) (s .args .p)) =
+    λ i. record { numerator = n i; denominator = c .denominator-of .ensures i; pass = leb (n i) (c .denominator-of .ensures i); row = is i .row; acting = is i .acting; low = is i .low } in
+    (used, utilisation-governs (s .args .s) (kind s) (past s) (effect s) (s .args .p) _ used)
 
 pub utilisation-of-spec : {M : Type 1} → statement M
 utilisation-of-spec =

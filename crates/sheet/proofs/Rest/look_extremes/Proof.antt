@@ -59,7 +59,7 @@ returns c =
     let d = c .before .before .before .before .before in
     let s = d .before in
     let w = whole (s .args .self) (s .args .effects .now) in
-    ap (λ x. answer.Extremes x) (c .extremes-of .ensures
+    ap (λ x. answer.Extremes x) (c .extremes-of .ensures .0
     ∙ ap (λ (l : List ℤ). extremesOf (w .settings) (kindOf (w .kinds)) (λ k. effectOf l k (s .args .component))) (part-is w (s .args .station)))
     ∙ answered-none (dueExtremes (s .args .station) (s .args .component)) _ (sym (d .due-extremes .ensures) ∙ c .before .before .before .before .if1 .taken)
 

@@ -114,7 +114,7 @@ returns c =
     let s = d .before .before .before .before .before in
     let w = whole (s .args .self) (s .args .effects .now) in
     let t = s .args .station in
-    ap (λ x. answer.Utilisation x) (c .utilisation-of .ensures
+    ap (λ x. answer.Utilisation x) (c .utilisation-of .ensures .0
     ∙ (λ i. utilisedOf (w .settings) (kindOf (w .kinds)) (effectOf (part-is w t i)) (capacities-read w t i)))
     ∙ answered-none (dueUtilisation w t) _ (sym (due-is d) ∙ c .before .before .before .if1 .taken)
 
