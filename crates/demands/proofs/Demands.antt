@@ -7,17 +7,7 @@ use mathlib.Core.Logic.{_⊎_, inl, inr, ⊎-elim}
 use native.Mathlib.Omega.{arith}
 use borrow.Author.Tests.{le-ltb, ne-eqb}
 use lib.ListN.{length, List·getD-eq-default}
-use lib.IntN.{ℤ, pos, _+ℤ_, _*ℤ_}
-use lib.Signed.{_≤ℤ_}
-use Rattle.integers.specs.Sums.{sumℤ}
 use Rattle.wire.proofs.Cases.{eq-or-ne}
-use Rattle.standard.specs.declared.Settings.{Settings}
-use Rattle.standard.specs.declared.Capacities.{Capacities}
-use Rattle.standard.specs.Combination.{Combination, caseCount, taken, factoredEffect, numeratorOf, utilisationOf, denominatorOf}
-use Rattle.standard.specs.Governing.{Reaches, Maximum, Minimum, Utilisation}
-use Rattle.envelope.specs.Range.{effectOf}
-use Rattle.envelope.proofs.Maximum.{extremes-governing}
-use Rattle.envelope.proofs.Utilisation.{namedIn, utilisation-greatest}
 use Rattle.sheet.specs.declared.Sheet.{Sheet}
 use Rattle.sheet.specs.declared.Answer.the-variants as answer
 use Rattle.sheet.specs.declared.Answered.{Answered}
@@ -26,8 +16,7 @@ use Rattle.sheet.specs.Looks.{stationEffects, capacitiesAt, extremesAt, utilisa
 use Rattle.refusals.specs.Refusals.{dueExtremes, dueUtilisationAt}
 use Rattle.sheet.specs.Range.{InRange}
 use Rattle.sheet.proofs.Kept.{fresh-kept}
-use Rattle.refusals.proofs.Fits.{settings-range}
-use Rattle.sheet.proofs.Stations.{effect-seen}
+use Rattle.sheet.proofs.Promised.{extremes-govern-at, utilisation-governs-at}
 use Rattle.fields.specs.declared.Reading.{Reading}
 use Rattle.headers.specs.Headers.{lengthOf, dueHeader}
 use Rattle.fields.specs.Field.{readField}
@@ -41,65 +30,8 @@ use Rattle.demands.proofs.Due.{due-most, none-due, due-refused, refused
 use Rattle.demands.specs.Demands.{Given, sheetFrom, Made, ReadOn, Readings, none, next, given, worksOut, Demand1, Demand2, lookExtremes, lookUtilisation, ExtremesAnswered, UtilisationAnswered, Demand3, Demands}
 use Rattle.answers.specs.Answers.{answerRoom}
 
--- ---- a factored effect depends on the effects of the 32 cases alone
-sum-agrees : (n : ℕ) (f g : ℕ → ℤ) → ((k : ℕ) → k < n → f k ≡ g k) → sumℤ n f ≡ sumℤ n g
-unfolding sumℤ
-sum-agrees zero f g e = refl
-sum-agrees (suc n) f g e =
-    let p : sumℤ n f ≡ sumℤ n g = sum-agrees n f g (λ k l. e k (omega arith)) in
-    let q : f n ≡ g n = e n (omega arith) in
-    λ i. p i +ℤ q i
-
-module _ (s : Settings) (kind : ℕ → ℕ) where
-  effect-agrees : (c : Combination) (f g : ℕ → ℤ) → ((k : ℕ) → k < caseCount → f k ≡ g k) → factoredEffect s kind c f ≡ factoredEffect s kind c g
-  unfolding factoredEffect
-  effect-agrees c f g e = sum-agrees caseCount _ _ (λ k l. ap (λ (z : ℤ). pos (taken s kind c k) *ℤ z) (e k l))
-
-  module _ (f g : ℕ → ℤ) (e : (k : ℕ) → k < caseCount → f k ≡ g k) (c : Combination) (v : ℤ) where
-    reaches-agrees : Reaches s kind f c v → Reaches s kind g c v
-    reaches-agrees r = record { admissible = r .admissible; exact = sym (effect-agrees c f g e) ∙ r .exact }
-
-    maximum-agrees : Maximum s kind f c v → Maximum s kind g c v
-    maximum-agrees m = record {
-      none-above = λ d ok. subst (λ (z : ℤ). z ≤ℤ v) (effect-agrees d f g e) (m .none-above d ok);
-      named = reaches-agrees (m .named);
-    }
-
-    minimum-agrees : Minimum s kind f c v → Minimum s kind g c v
-    minimum-agrees m = record {
-      none-below = λ d ok. subst (λ (z : ℤ). v ≤ℤ z) (effect-agrees d f g e) (m .none-below d ok);
-      named = reaches-agrees (m .named);
-    }
-
-  module _ (f g : ℕ → ℕ → ℤ) (e : (k j : ℕ) → k < caseCount → j < 3 → f k j ≡ g k j) (p : Capacities) where
-    used-agrees : (c : Combination) → utilisationOf s kind f p c ≡ utilisationOf s kind g p c
-    used-agrees c =
-        let at : (j : ℕ) → j < 3 → factoredEffect s kind c (λ k. f k j) ≡ factoredEffect s kind c (λ k. g k j) =
-        λ j l. effect-agrees c (λ k. f k j) (λ k. g k j) (λ k m. e k j m l) in
-        λ i. numeratorOf p (at 0 (omega arith) i) (at 1 (omega arith) i) (at 2 (omega arith) i)
-
-    utilisation-agrees : {c : Combination} {n d : ℕ} {pass : _} → Utilisation s kind f p c n d pass → Utilisation s kind g p c n d pass
-    utilisation-agrees {c} {n} u = record {
-      none-above = λ x ok. subst (λ (a : ℕ). a ≤ n) (used-agrees x) (u .none-above x ok);
-      admissible = u .admissible;
-      exact = sym (used-agrees c) ∙ u .exact;
-      over = u .over;
-      verdict = (
-        λ t x ok. subst (λ (a : ℕ). a ≤ denominatorOf p) (used-agrees x) (u .verdict .0 t x ok),
-        λ all. u .verdict .1 (λ x ok. subst (λ (a : ℕ). a ≤ denominatorOf p) (sym (used-agrees x)) (all x ok)),
-      );
-    }
-
 -- ---- a sheet in range
 module _ (w : Sheet) (h : InRange w) where
-  method-known : (w .settings .method ≡ 1) ⊎ (w .settings .method ≡ 2)
-  method-known =
-      let f = settings-range _ _ _ (h .settings) in
-      ⊎-elim inl (λ n. inr (omega (arith, f .some, f .method))) (eq-or-ne (w .settings .method) 1)
-
-  none-past : (k : ℕ) → caseCount ≤ k → kindAt w k ≡ 0
-  none-past k l = List·getD-eq-default (w .kinds) 0 (omega (arith, h .kinds-long))
-
   extremes-field : (t j : ℕ) → t < 16 → j < 3 →
       fieldOf w 6 (t ∷ j ∷ []) ≡ record { answer = answer.Extremes (extremesAt w t j); sheet = w }
   unfolding fieldOf dueHeader lengthOf runOf dueExtremes
@@ -117,30 +49,26 @@ module _ (w : Sheet) (h : InRange w) where
 
   extremes-answered : (t j : ℕ) → t < 16 → j < 3 → (m : Made) (rest : List ℕ) → answerRoom ≤ length (m .out) → m .input ≡ lookExtremes t j rest →
       ReadOn w m → ExtremesAnswered w t j (m .result)
-  unfolding extremesAt
-  extremes-answered t j a b m rest g i f =
+  extremes-answered t j a b m rest room i f =
       let two : 2 < 256 = omega arith in
-      let r = f .reading ∙ ap (λ (x : List ℕ). readField x (length (m .out)) w) i ∙ front-read 6 (t ∷ j ∷ []) rest (length (m .out)) w g two (extremes-field t j a b) in
-      let x = extremes-governing (w .settings) (kindAt w) method-known none-past (λ k. effectOf (stationEffects w t) k j) in
-      let same : (k : ℕ) → k < caseCount → effectOf (stationEffects w t) k j ≡ effectAt w k t j = λ k l. effect-seen w t h a k j l b in
+      let r = f .reading ∙ ap (λ (x : List ℕ). readField x (length (m .out)) w) i ∙ front-read 6 (t ∷ j ∷ []) rest (length (m .out)) w room two (extremes-field t j a b) in
+      let g = extremes-govern-at w h t j a b in
       record {
         extremes = extremesAt w t j;
         answered = ap (λ (y : Reading). y .answer) r;
-        maximum = maximum-agrees (w .settings) (kindAt w) _ _ same _ _ (x .0);
-        minimum = minimum-agrees (w .settings) (kindAt w) _ _ same _ _ (x .1);
+        maximum = g .maximum;
+        minimum = g .minimum;
       }
 
   utilisation-answered : (t : ℕ) → t < 16 → 0 < capacityAt w t 0 → (m : Made) (rest : List ℕ) → answerRoom ≤ length (m .out) →
       m .input ≡ lookUtilisation t rest → ReadOn w m → UtilisationAnswered w t (m .result)
-  unfolding utilisationAt namedIn
   utilisation-answered t a c m rest g i f =
       let one : 1 < 256 = omega arith in
       let r = f .reading ∙ ap (λ (x : List ℕ). readField x (length (m .out)) w) i ∙ front-read 7 (t ∷ []) rest (length (m .out)) w g one (utilisation-field t a c) in
       record {
         used = utilisationAt w t;
         answered = ap (λ (y : Reading). y .answer) r;
-        greatest = utilisation-agrees (w .settings) (kindAt w) (effectOf (stationEffects w t)) (λ k j. effectAt w k t j) (λ k j l b. effect-seen w t h a k j l b)
-            (capacitiesAt w t) (utilisation-greatest (w .settings) (kindAt w) method-known none-past (effectOf (stationEffects w t)) (capacitiesAt w t));
+        greatest = utilisation-governs-at w h t a .greatest;
       }
 
   refused-not-accepted : (n : ℕ) → answer.Refused n ≡ answer.Accepted → ⊥

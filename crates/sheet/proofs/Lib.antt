@@ -3,3 +3,4 @@ pub mod Access
 pub mod Kept
 pub mod Stations
 pub mod Parts
+pub mod Promised

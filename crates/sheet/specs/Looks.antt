@@ -2,6 +2,7 @@
 use Prim.Native.Nat.{ℕ}
 use mathlib.Core.List.{List}
 use mathlib.Core.Bool.{cond}
+use mathlib.Core.Path.{_≡_}
 use lib.Dec.{eqb}
 use lib.IntN.{ℤ}
 use Rattle.standard.specs.declared.Capacities.{Capacities}
@@ -9,6 +10,7 @@ use Rattle.envelope.specs.declared.Extremes as extremes
 use Rattle.envelope.specs.declared.Utilised.{Utilised}
 use Rattle.envelope.specs.Range.{effectOf}
 use Rattle.envelope.specs.Envelope.{extremesOf, utilisedOf}
+use Rattle.station.specs.Promises.{ExtremesGovern, UtilisationGoverns}
 use Rattle.refusals.specs.Refusals.{dueExtremes, dueUtilisationAt}
 use Rattle.effects.specs.Effects.{stationIn}
 use Rattle.sheet.specs.declared.Sheet.{Sheet}
@@ -16,7 +18,7 @@ use Rattle.sheet.specs.declared.Answer.{Answer}
 use Rattle.sheet.specs.declared.Answer.the-variants as answer
 use Rattle.sheet.specs.declared.Answered.{Answered}
 use Rattle.sheet.specs.declared.Edited.{Edited}
-use Rattle.sheet.specs.Sheet.{kindAt, capacityAt}
+use Rattle.sheet.specs.Sheet.{kindAt, effectAt, capacityAt}
 
 -- the effects of a station, three of each case
 unfoldable pub stationEffects : Sheet → ℕ → List ℤ
@@ -53,3 +55,11 @@ answerOf due = unlessDue due answer.Accepted
 -- an edit's answer: accepted, or its refusal
 abbrev pub edited : Edited → Answered
 edited e = record { answer = answerOf (e .refusal); sheet = e .sheet }
+
+-- what a look promises in the standard's words, beside its equation: an answer that is no refusal governs
+pub record ExtremesPromised (s : Sheet) (station component : ℕ) (a : Answer) : Type 0 where
+  pub govern : (x : extremes.Extremes) → a ≡ answer.Extremes x → ExtremesGovern (s .settings) (kindAt s) (λ k. effectAt s k station component) x
+
+pub record UtilisationPromised (s : Sheet) (station : ℕ) (a : Answer) : Type 0 where
+  pub governs : (x : Utilised) → a ≡ answer.Utilisation x →
+      UtilisationGoverns (s .settings) (kindAt s) (λ k j. effectAt s k station j) (capacitiesAt s station) x

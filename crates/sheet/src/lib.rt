@@ -12,7 +12,7 @@ ghost use Rattle.envelope.specs.Range.{stationCount, componentCount};
 ghost use Rattle.refusals.specs.Refusals.{dueSettings, dueCapacities, dueExtremes};
 ghost use Rattle.sheet.specs.Sheet.{fresh, withKind, withEffects, withCapacities};
 ghost use Rattle.sheet.specs.Range.{InRange};
-ghost use Rattle.sheet.specs.Looks.{extremesAt, utilisationAt, unlessDue, edited, dueUtilisation, lookedExtremes, lookedUtilisation};
+ghost use Rattle.sheet.specs.Looks.{extremesAt, utilisationAt, unlessDue, edited, dueUtilisation, lookedExtremes, lookedUtilisation, ExtremesPromised, UtilisationPromised};
 ghost use Rattle.sheet.specs.Parts.{restOf, whole, wholeOf};
 ghost use Rattle.sheet.specs.Edits.{dueFill, dueEffects, dueEmpty, tried};
 use effects::COMPONENTS;
@@ -144,7 +144,7 @@ impl Sheet {
     // Tag 06.
     pub fn look_extremes(self, station: u8, component: u8) -> Answered
         requires { ⌜ InRange self ⌝ }
-        ensures { λ r. ⌜ r ≡ lookedExtremes self station component ⌝ }
+        ensures { λ r. ⌜ (r ≡ lookedExtremes self station component) × ExtremesPromised self station component (r .answer) ⌝ }
     {
         let effects = self.effects;
         let answer = self.rest().look_extremes(&effects, station, component);
@@ -157,7 +157,7 @@ impl Sheet {
     // Tag 07.
     pub fn look_utilisation(self, station: u8) -> Answered
         requires { ⌜ InRange self ⌝ }
-        ensures { λ r. ⌜ r ≡ lookedUtilisation self station ⌝ }
+        ensures { λ r. ⌜ (r ≡ lookedUtilisation self station) × UtilisationPromised self station (r .answer) ⌝ }
     {
         let effects = self.effects;
         let answer = self.rest().look_utilisation(&effects, station);
@@ -359,7 +359,7 @@ impl Rest {
     // Tag 06.
     pub fn look_extremes(self, effects: &[i16], station: u8, component: u8) -> Answer
         requires { ⌜ InRange (whole self (now effects)) ⌝ }
-        ensures { λ r. ⌜ r ≡ unlessDue (dueExtremes station component) (Answer.Extremes (extremesAt (whole self (now (effects .entry))) station component)) ⌝ }
+        ensures { λ r. ⌜ (r ≡ unlessDue (dueExtremes station component) (Answer.Extremes (extremesAt (whole self (now (effects .entry))) station component))) × ExtremesPromised (whole self (now (effects .entry))) station component r ⌝ }
     {
         let due = refusals::due_extremes(station, component);
         if due == 0 {
@@ -381,7 +381,7 @@ impl Rest {
     // Tag 07.
     pub fn look_utilisation(self, effects: &[i16], station: u8) -> Answer
         requires { ⌜ InRange (whole self (now effects)) ⌝ }
-        ensures { λ r. ⌜ r ≡ unlessDue (dueUtilisation (whole self (now (effects .entry))) station) (Answer.Utilisation (utilisationAt (whole self (now (effects .entry))) station)) ⌝ }
+        ensures { λ r. ⌜ (r ≡ unlessDue (dueUtilisation (whole self (now (effects .entry))) station) (Answer.Utilisation (utilisationAt (whole self (now (effects .entry))) station))) × UtilisationPromised (whole self (now (effects .entry))) station r ⌝ }
     {
         let kinds = self.kinds;
         let capacities = self.capacities;

@@ -84,7 +84,7 @@ returns-6 : tie.Need-returns-6
 unfolding runOf lookedExtremes
 returns-6 c =
     let s = c .before .before .before .before .before .before .before in
-    rw (c .before .before .before .match .keys6) (ap (λ x. record { answer = x; sheet = whole (s .args .rest) (s .args .effects .now) }) (c .look-extremes .ensures) ∙ (cc) ∙ sym (extremes-ran (whole (s .args .rest) (s .args .effects .now)) (s .args .body .now)))
+    rw (c .before .before .before .match .keys6) (ap (λ x. record { answer = x; sheet = whole (s .args .rest) (s .args .effects .now) }) (c .look-extremes .ensures .0) ∙ (cc) ∙ sym (extremes-ran (whole (s .args .rest) (s .args .effects .now)) (s .args .body .now)))
 
 returns-7 : tie.Need-returns-7
 unfolding runOf lookedUtilisation
@@ -92,7 +92,7 @@ returns-7 c =
     let s = c .before .before .before .before .before .before .before in
     let r = c .before .before .before .match .rest in
     let seven : s .args .tag ≡ 7 = last-tag (s .args .tag) (s .pre .1) (r .0 .0 .0 .0 .0 .1) (r .0 .0 .0 .0 .1) (r .0 .0 .0 .1) (r .0 .0 .1) (r .0 .1) (r .1) in
-    rw seven (ap (λ x. record { answer = x; sheet = whole (s .args .rest) (s .args .effects .now) }) (c .look-utilisation .ensures) ∙ (cc) ∙ sym (utilisation-ran (whole (s .args .rest) (s .args .effects .now)) (s .args .body .now)))
+    rw seven (ap (λ x. record { answer = x; sheet = whole (s .args .rest) (s .args .effects .now) }) (c .look-utilisation .ensures .0) ∙ (cc) ∙ sym (utilisation-ran (whole (s .args .rest) (s .args .effects .now)) (s .args .body .now)))
 
 pub run-in-spec : {M : Type 1} → statement M
 run-in-spec =

@@ -13,6 +13,7 @@ use Rattle.sheet.specs.Parts.{whole}
 use Rattle.refusals.proofs.Fits.{extremes-range}
 use Rattle.sheet.proofs.Refusals.{answered-none, answered-due}
 use Rattle.sheet.proofs.Stations.{station-in-range, part-is}
+use Rattle.sheet.proofs.Promised.{with-extremes}
 use borrow.Author.Needs.{needs}
 use Rattle.sheet.proofs.Rest.look_extremes.Statement.{statement}
 use Rattle.sheet.proofs.Rest.look_extremes.Tie as tie
@@ -59,15 +60,15 @@ returns c =
     let d = c .before .before .before .before .before in
     let s = d .before in
     let w = whole (s .args .self) (s .args .effects .now) in
-    ap (λ x. answer.Extremes x) (c .extremes-of .ensures .0
+    with-extremes (whole (s .args .self) (s .args .effects .now)) (s .pre) (s .args .station) (s .args .component) _ (ap (λ x. answer.Extremes x) (c .extremes-of .ensures .0
     ∙ ap (λ (l : List ℤ). extremesOf (w .settings) (kindOf (w .kinds)) (λ k. effectOf l k (s .args .component))) (part-is w (s .args .station)))
-    ∙ answered-none (dueExtremes (s .args .station) (s .args .component)) _ (sym (d .due-extremes .ensures) ∙ c .before .before .before .before .if1 .taken)
+    ∙ answered-none (dueExtremes (s .args .station) (s .args .component)) _ (sym (d .due-extremes .ensures) ∙ c .before .before .before .before .if1 .taken))
 
 returns-2 : tie.Need-returns-2
 returns-2 c =
     let d = c .before in
     let s = d .before in
-    answered-due (dueExtremes (s .args .station) (s .args .component)) (answer.Extremes (extremesAt (whole (s .args .self) (s .args .effects .now)) (s .args .station) (s .args .component))) (d .due-extremes .ensures) (c .if1 .left)
+    with-extremes (whole (s .args .self) (s .args .effects .now)) (s .pre) (s .args .station) (s .args .component) _ (answered-due (dueExtremes (s .args .station) (s .args .component)) (answer.Extremes (extremesAt (whole (s .args .self) (s .args .effects .now)) (s .args .station) (s .args .component))) (d .due-extremes .ensures) (c .if1 .left))
 
 pub look-extremes-spec : {M : Type 1} → statement M
 look-extremes-spec =

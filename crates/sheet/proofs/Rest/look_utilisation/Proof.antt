@@ -15,6 +15,7 @@ use Rattle.sheet.specs.Parts.{whole}
 use Rattle.refusals.proofs.Fits.{utilisation-range}
 use Rattle.sheet.proofs.Refusals.{answered-none, answered-due}
 use Rattle.sheet.proofs.Stations.{station-in-range, part-is, capacities-in-range, capacities-read}
+use Rattle.sheet.proofs.Promised.{with-utilisation}
 use borrow.Author.Needs.{needs}
 use Rattle.sheet.proofs.Rest.look_utilisation.Statement.{statement}
 use Rattle.sheet.proofs.Rest.look_utilisation.Tie as tie
@@ -114,16 +115,16 @@ returns c =
     let s = d .before .before .before .before .before in
     let w = whole (s .args .self) (s .args .effects .now) in
     let t = s .args .station in
-    ap (λ x. answer.Utilisation x) (c .utilisation-of .ensures .0
+    with-utilisation (whole (s .args .self) (s .args .effects .now)) (s .pre) (s .args .station) _ (ap (λ x. answer.Utilisation x) (c .utilisation-of .ensures .0
     ∙ (λ i. utilisedOf (w .settings) (kindOf (w .kinds)) (effectOf (part-is w t i)) (capacities-read w t i)))
-    ∙ answered-none (dueUtilisation w t) _ (sym (due-is d) ∙ c .before .before .before .if1 .taken)
+    ∙ answered-none (dueUtilisation w t) _ (sym (due-is d) ∙ c .before .before .before .if1 .taken))
 
 returns-2 : tie.Need-returns-2
 returns-2 c =
     let d = c .before in
     let s = d .before .before .before .before .before in
     let w = whole (s .args .self) (s .args .effects .now) in
-    answered-due (dueUtilisation w (s .args .station)) (answer.Utilisation (utilisationAt w (s .args .station))) (due-is d) (c .if1 .left)
+    with-utilisation (whole (s .args .self) (s .args .effects .now)) (s .pre) (s .args .station) _ (answered-due (dueUtilisation w (s .args .station)) (answer.Utilisation (utilisationAt w (s .args .station))) (due-is d) (c .if1 .left))
 
 pub look-utilisation-spec : {M : Type 1} → statement M
 look-utilisation-spec =

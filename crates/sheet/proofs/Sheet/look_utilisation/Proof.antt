@@ -20,7 +20,8 @@ returns : tie.Need-returns
 unfolding lookedUtilisation
 returns c =
     let s = c .before .before .before .before in
-    ap (λ (x : Answer). record { answer = x; sheet = s .args .self }) (rw (c .before .before .rest .ensures) at (c .look-utilisation .ensures))
+    let e = rw (c .before .before .rest .ensures) at (c .look-utilisation .ensures) in
+    (ap (λ (x : Answer). record { answer = x; sheet = s .args .self }) (e .0), e .1)
 
 pub look-utilisation-spec : {M : Type 1} → statement M
 look-utilisation-spec =
