@@ -1,5 +1,6 @@
 -- The extremes and the utilisation of a station, as they are computed: a function of the settings, the kinds, the station's
--- effects and its capacities alone.
+-- effects and its capacities alone. It names one of the combinations that reach a number, and nothing here needs to be believed:
+-- the calls that cite it promise the standard's words too.
 use Prim.Native.Nat.{ℕ, zero, suc, _+_, _*_, _-_}
 use mathlib.Core.Bool.{Bool, cond}
 use mathlib.Core.List.{List, [], _∷_}

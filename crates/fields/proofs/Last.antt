@@ -13,7 +13,7 @@ use Rattle.sheet.specs.declared.Answer.{Answer}
 use Rattle.sheet.specs.declared.Answer.the-variants.{Accepted}
 use Rattle.sheet.specs.declared.Answered.{Answered}
 use Rattle.refusals.specs.Refusals.{effectOutside, capacityOutside, kindOutside, methodOutside, dueSettings, dueFillAt, dueEffectsAt, dueEmptyAt, dueCapacities, dueExtremes, dueUtilisationAt}
-use Rattle.sheet.specs.Edits.{tried}
+use Rattle.sheet.specs.Edits.{unlessRefused}
 use Rattle.sheet.specs.Looks.{unlessDue, lookedExtremes, lookedUtilisation, edited}
 use Rattle.headers.specs.declared.Header.{Header}
 use Rattle.headers.specs.declared.Header.the-variants.{Field, Short}
@@ -83,8 +83,8 @@ utilisation-not3 held station =
 due-not-last : (due : ℕ) (a : Answer) → Not3 due → NotLast a → NotLast (unlessDue due a)
 due-not-last due a d h = both NotLast (eqb due 0) h (d .differs)
 
-edit-not-last : (due : ℕ) (s s′ : Sheet) → Not3 due → NotLast (edited (tried due s s′) .answer)
-unfolding tried
+edit-not-last : (due : ℕ) (s s′ : Sheet) → Not3 due → NotLast (edited (unlessRefused due s s′) .answer)
+unfolding unlessRefused
 edit-not-last due s s′ d = due-not-last due Accepted d refl
 
 abbrev NotLastAnswer : Answered → Type 0

@@ -12,7 +12,7 @@ use Rattle.sheet.specs.declared.Sheet.{Sheet}
 use Rattle.sheet.specs.declared.Answered.{Answered}
 use Rattle.sheet.specs.Sheet.{fresh, withKind, withEffects, withCapacities}
 use Rattle.refusals.specs.Refusals.{firstDue, dueSettings, dueFillAt, dueEffectsAt, dueEmptyAt, dueCapacities, dueExtremes, dueUtilisationAt}
-use Rattle.sheet.specs.Edits.{dueFill, dueEffects, dueEmpty, tried}
+use Rattle.sheet.specs.Edits.{dueFill, dueEffects, dueEmpty, unlessRefused}
 use Rattle.sheet.specs.Looks.{lookedExtremes, lookedUtilisation, edited}
 use Rattle.fields.specs.Tags.{extremesTag, utilisationTag, tags}
 use Rattle.fields.specs.Order.{ranBy, runOf}
@@ -39,13 +39,13 @@ module _ (P : Answered → Type 0) (s : Sheet) (tag : ℕ) (b : List ℕ) where
   b1 = byteAt b 1
 
   pub run-by :
-      P (edited (tried (dueSettings b0 b1 (byteAt b 2)) s (fresh (settingsOf b0 b1 (byteAt b 2))))) →
-      P (edited (tried (dueFill s b0 b1) s (withKind s b0 b1))) →
-      P (edited (tried (dueEffects s b0 b1 (wordAt b 2) (wordAt b 4) (wordAt b 6)) s (withEffects s b0 b1 (signed16 (wordAt b 2)) (signed16 (wordAt b 4)) (signed16 (wordAt b 6))))) →
-      P (edited (tried (dueEmpty s b0) s (withKind s b0 0))) →
-      P (edited (tried (dueCapacities b0 (wordAt b 1) (wordAt b 3) (wordAt b 5)) s (withCapacities s b0 (wordAt b 1) (wordAt b 3) (wordAt b 5)))) →
+      P (edited (unlessRefused (dueSettings b0 b1 (byteAt b 2)) s (fresh (settingsOf b0 b1 (byteAt b 2))))) →
+      P (edited (unlessRefused (dueFill s b0 b1) s (withKind s b0 b1))) →
+      P (edited (unlessRefused (dueEffects s b0 b1 (wordAt b 2) (wordAt b 4) (wordAt b 6)) s (withEffects s b0 b1 (signed16 (wordAt b 2)) (signed16 (wordAt b 4)) (signed16 (wordAt b 6))))) →
+      P (edited (unlessRefused (dueEmpty s b0) s (withKind s b0 0))) →
+      P (edited (unlessRefused (dueCapacities b0 (wordAt b 1) (wordAt b 3) (wordAt b 5)) s (withCapacities s b0 (wordAt b 1) (wordAt b 3) (wordAt b 5)))) →
       P (lookedExtremes s b0 b1) → P (lookedUtilisation s b0) → P (runOf s tag b)
-  unfolding runOf tried dueSettings dueFillAt dueEffectsAt dueEmptyAt dueCapacities
+  unfolding runOf unlessRefused dueSettings dueFillAt dueEffectsAt dueEmptyAt dueCapacities
   run-by p1 p2 p3 p4 p5 p6 p7 = at (tag - 1)
     where
       seventh : (k : ℕ) → P (ranBy (getD (utilisationTag ∷ []) k utilisationTag) s b)

@@ -20,7 +20,7 @@ use Rattle.sheet.specs.declared.Answer.{Answer}
 use Rattle.sheet.specs.declared.Edited.{Edited}
 use Rattle.sheet.specs.declared.Answer.the-variants as answer
 use Rattle.sheet.specs.Sheet.{kindAt}
-use Rattle.sheet.specs.Edits.{tried}
+use Rattle.sheet.specs.Edits.{unlessRefused}
 use Rattle.sheet.specs.Looks.{stationEffects, capacitiesAt, extremesAt, utilisationAt, dueUtilisation, lookedExtremes, lookedUtilisation, unlessDue, edited}
 use Rattle.refusals.specs.Refusals.{dueExtremes}
 use Rattle.headers.specs.Headers.{dueHeader}
@@ -66,7 +66,7 @@ module _ (s : Sheet) (station : ℕ) where
 
 run-fits : (s : Sheet) (tag : ℕ) (b : List ℕ) → Fits (runOf s tag b)
 run-fits s tag b =
-    run-by Fits s tag b (edit-fits (tried _ s _)) (edit-fits (tried _ s _)) (edit-fits (tried _ s _)) (edit-fits (tried _ s _)) (edit-fits (tried _ s _))
+    run-by Fits s tag b (edit-fits (unlessRefused _ s _)) (edit-fits (unlessRefused _ s _)) (edit-fits (unlessRefused _ s _)) (edit-fits (unlessRefused _ s _)) (edit-fits (unlessRefused _ s _))
     (extremes-fit s _ _) (utilisation-fits s _)
 
 pub field-fits : (s : Sheet) (tag : ℕ) (b : List ℕ) → RowsFit (fieldOf s tag b .answer)

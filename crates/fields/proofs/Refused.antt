@@ -9,7 +9,7 @@ use lib.Dec.{eqb, ltb}
 use Rattle.sheet.specs.declared.Sheet.{Sheet}
 use Rattle.sheet.specs.declared.Answered.{Answered}
 use Rattle.sheet.specs.declared.Answer.the-variants.{Accepted}
-use Rattle.sheet.specs.Edits.{tried}
+use Rattle.sheet.specs.Edits.{unlessRefused}
 use Rattle.sheet.specs.Looks.{lookedExtremes, lookedUtilisation, edited}
 use Rattle.headers.specs.declared.Header.{Header}
 use Rattle.headers.specs.declared.Header.the-variants.{Field, Short}
@@ -26,8 +26,8 @@ use Rattle.answers.specs.Answers.{answerRoom}
 abbrev Unedited : Sheet → Answered → Type 0
 Unedited s a = (a .answer ≡ Accepted → ⊥) → a .sheet ≡ s
 
-tried-unedited : (d : ℕ) (s s′ : Sheet) → Unedited s (edited (tried d s s′))
-unfolding tried
+tried-unedited : (d : ℕ) (s s′ : Sheet) → Unedited s (edited (unlessRefused d s s′))
+unfolding unlessRefused
 tried-unedited d s s′ h = rw (ne-eqb d 0 (λ e. h (rw (eq-eqb d 0 e))))
 
 run-unedited : (s : Sheet) (tag : ℕ) (b : List ℕ) → Unedited s (runOf s tag b)

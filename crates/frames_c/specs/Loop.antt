@@ -1,4 +1,5 @@
--- What the loop over a list of fields keeps: the sheet, the first refusal, and the output with the place of the next answer.
+-- What the loop over a list of fields keeps: the sheet, the first refusal, and the output with the place of the next answer. Nothing here
+-- needs to be believed.
 use Prim.Native.Nat.{ℕ, _+_, _*_, _≤_}
 use mathlib.Core.List.{List, [], _∷_}
 use mathlib.Core.Bool.{Bool, true, false, cond}

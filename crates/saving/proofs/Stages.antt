@@ -20,7 +20,7 @@ use Rattle.wire.proofs.Cases.{lt-or-ge, eq-or-ne}
 use Rattle.sheet.specs.declared.Sheet.{Sheet}
 use Rattle.sheet.specs.Sheet.{kindAt, effectAt, capacityAt, fresh, withKind, withEffects, withCapacities}
 use Rattle.refusals.specs.Refusals.{dueSettings, dueFillAt, dueEffectsAt, dueCapacities}
-use Rattle.sheet.specs.Edits.{dueFill, dueEffects, tried}
+use Rattle.sheet.specs.Edits.{dueFill, dueEffects, unlessRefused}
 use Rattle.sheet.specs.Range.{InRange}
 use Rattle.sheet.proofs.Access.{Long, long, fresh-long, kind-long, effects-long, capacities-long, kind-filled, kind-other, effect-cleared, effect-kept, kind-leaves-capacity, kind-leaves-settings, effect-replaced, effect-other, effects-leave-kind, effects-leave-capacity, effects-leave-settings, capacity-replaced, capacity-other, capacities-leave-kind, capacities-leave-effect, capacities-leave-settings, fresh-settings, fresh-kind, fresh-effect, fresh-capacity, same-sheet}
 use Rattle.sheet.proofs.Refusals.{tried-none}
@@ -32,11 +32,11 @@ use Rattle.saving.proofs.Framing.{accepted}
 -- ---- a field that is not refused
 pub settings-edit : (s : Sheet) (m l z : ℕ) → dueSettings m l z ≡ 0 →
     fieldOf s 1 (m ∷ l ∷ z ∷ []) ≡ accepted (fresh (record { method = m; live = l; zone = z }))
-unfolding fieldOf dueHeader lengthOf runOf tried dueSettings
+unfolding fieldOf dueHeader lengthOf runOf unlessRefused dueSettings
 settings-edit s m l z e = ap edited (sym (tried-none (dueSettings m l z) s _ e refl))
 
 pub fill-edit : (s : Sheet) (k v : ℕ) → dueFill s k v ≡ 0 → fieldOf s 2 (k ∷ v ∷ []) ≡ accepted (withKind s k v)
-unfolding fieldOf dueHeader lengthOf runOf tried dueFillAt
+unfolding fieldOf dueHeader lengthOf runOf unlessRefused dueFillAt
 fill-edit s k v e = ap edited (sym (tried-none (dueFill s k v) s _ e refl))
 
 -- a number is what its two bytes say
@@ -45,12 +45,12 @@ joined n = omega arith
 
 pub effects-edit : (s : Sheet) (k t n y z : ℕ) → dueEffects s k t n y z ≡ 0 →
     fieldOf s 3 (k ∷ t ∷ n / 256 ∷ n % 256 ∷ y / 256 ∷ y % 256 ∷ z / 256 ∷ z % 256 ∷ []) ≡ accepted (withEffects s k t (signed16 n) (signed16 y) (signed16 z))
-unfolding fieldOf dueHeader lengthOf runOf tried dueEffectsAt
+unfolding fieldOf dueHeader lengthOf runOf unlessRefused dueEffectsAt
 effects-edit s k t n y z e = rw (joined n, joined y, joined z) (ap edited (sym (tried-none (dueEffects s k t n y z) s _ e refl)))
 
 pub capacities-edit : (s : Sheet) (t n y z : ℕ) → dueCapacities t n y z ≡ 0 →
     fieldOf s 5 (t ∷ n / 256 ∷ n % 256 ∷ y / 256 ∷ y % 256 ∷ z / 256 ∷ z % 256 ∷ []) ≡ accepted (withCapacities s t n y z)
-unfolding fieldOf dueHeader lengthOf runOf tried dueCapacities
+unfolding fieldOf dueHeader lengthOf runOf unlessRefused dueCapacities
 capacities-edit s t n y z e = rw (joined n, joined y, joined z) (ap edited (sym (tried-none (dueCapacities t n y z) s _ e refl)))
 
 -- ---- an effect and its bits

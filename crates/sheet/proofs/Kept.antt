@@ -22,7 +22,7 @@ use Rattle.sheet.specs.declared.Sheet.{Sheet}
 use Rattle.sheet.specs.Sheet.{kindAt, effectAt, capacityAt, fresh, freshSheet, withKind, withEffects, withCapacities}
 use Rattle.effects.specs.Effects.{place, cleared}
 use Rattle.refusals.specs.Refusals.{dueSettings, dueCapacities}
-use Rattle.sheet.specs.Edits.{dueFill, dueEffects, dueEmpty, tried}
+use Rattle.sheet.specs.Edits.{dueFill, dueEffects, dueEmpty, unlessRefused}
 use Rattle.sheet.specs.Range.{InRange, SettingsInRange, AllOrNone}
 use Rattle.refusals.proofs.Fits.{fill-range, effects-range, empty-range, capacities-range}
 use Rattle.sheet.proofs.Access.{long, fresh-long, kind-long, effects-long, capacities-long, kind-other, effect-cleared, effect-kept, effect-other, capacity-replaced, capacity-other, fresh-kind, fresh-settings, fresh-stored, fresh-effect, fresh-capacity}
@@ -131,13 +131,13 @@ capacities-kept s t n y z h e =
     }
 
 -- an edit as its refusals allow it
-pub tried-kept : (d : ℕ) (s s′ : Sheet) → InRange s → (d ≡ 0 → InRange s′) → InRange (tried d s s′ .sheet)
-unfolding tried
+pub tried-kept : (d : ℕ) (s s′ : Sheet) → InRange s → (d ≡ 0 → InRange s′) → InRange (unlessRefused d s s′ .sheet)
+unfolding unlessRefused
 tried-kept d s s′ h g = ⊎-elim
     (λ (e : eqb d 0 ≡ true). rw e (g (eqb-true d 0 e)))
     (λ (e : eqb d 0 ≡ false). rw e h)
     (either (eqb d 0))
 
 pub restarted : (s : Sheet) (settings : Settings) → InRange s →
-    InRange (tried (dueSettings (settings .method) (settings .live) (settings .zone)) s (fresh settings) .sheet)
+    InRange (unlessRefused (dueSettings (settings .method) (settings .live) (settings .zone)) s (fresh settings) .sheet)
 restarted s settings h = tried-kept (dueSettings (settings .method) (settings .live) (settings .zone)) s (fresh settings) h (fresh-in-range settings)

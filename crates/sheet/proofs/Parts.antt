@@ -13,7 +13,7 @@ use Rattle.sheet.specs.declared.Answered.{Answered}
 use Rattle.sheet.specs.declared.Answer.the-variants as answer
 use Rattle.sheet.specs.Sheet.{fresh, freshSheet}
 use Rattle.sheet.specs.Parts.{restOf, whole}
-use Rattle.sheet.specs.Edits.{tried}
+use Rattle.sheet.specs.Edits.{unlessRefused}
 use Rattle.sheet.specs.Looks.{edited}
 use Rattle.sheet.proofs.Refusals.{tried-none, tried-due, answered-due}
 
@@ -26,8 +26,8 @@ pub fresh-whole : (settings : Settings) {rest : Rest} {effects : List ℤ} → r
     whole rest effects ≡ freshSheet
 fresh-whole settings r s e = rw (r, s) (rest-whole freshSettings e)
 
-pub part-none : (d : ℕ) (s s′ : Sheet) {x : Sheet} → d ≡ 0 → x ≡ s′ → _≡_ {A = Answered} (record { answer = answer.Accepted; sheet = x }) (edited (tried d s s′))
+pub part-none : (d : ℕ) (s s′ : Sheet) {x : Sheet} → d ≡ 0 → x ≡ s′ → _≡_ {A = Answered} (record { answer = answer.Accepted; sheet = x }) (edited (unlessRefused d s s′))
 part-none d s s′ e f = ap edited (tried-none d s s′ e f)
 
-pub part-due : (d : ℕ) (s s′ : Sheet) {e : ℕ} → e ≡ d → (e ≡ 0 → ⊥) → _≡_ {A = Answered} (record { answer = answer.Refused e; sheet = s }) (edited (tried d s s′))
+pub part-due : (d : ℕ) (s s′ : Sheet) {e : ℕ} → e ≡ d → (e ≡ 0 → ⊥) → _≡_ {A = Answered} (record { answer = answer.Refused e; sheet = s }) (edited (unlessRefused d s s′))
 part-due d s s′ {e} p h = ap (λ x. record { answer = x; sheet = s }) (answered-due e answer.Accepted refl h) ∙ ap edited (tried-due d s s′ p h)

@@ -14,15 +14,15 @@ use Rattle.sheet.specs.declared.Answer.{Answer}
 use Rattle.sheet.specs.declared.Answer.the-variants as answer
 use Rattle.refusals.specs.Refusals.{dueExtremes, dueUtilisationAt, effectOutside, capacityOutside, kindOutside, methodOutside, dueSettings, dueFillAt, dueEffectsAt, dueEmptyAt, dueCapacities}
 use Rattle.sheet.specs.Looks.{unlessDue}
-use Rattle.sheet.specs.Edits.{tried}
+use Rattle.sheet.specs.Edits.{unlessRefused}
 
 -- an edit whose refusals are tried: made where none is due, else not
-pub tried-none : (d : ℕ) (s s′ : Sheet) {x : Sheet} → d ≡ 0 → x ≡ s′ → _≡_ {A = Edited} (record { refusal = 0; sheet = x }) (tried d s s′)
-unfolding tried
+pub tried-none : (d : ℕ) (s s′ : Sheet) {x : Sheet} → d ≡ 0 → x ≡ s′ → _≡_ {A = Edited} (record { refusal = 0; sheet = x }) (unlessRefused d s s′)
+unfolding unlessRefused
 tried-none d s s′ {x} e f = rw (e, f)
 
-pub tried-due : (d : ℕ) (s s′ : Sheet) {e : ℕ} → e ≡ d → (e ≡ 0 → ⊥) → _≡_ {A = Edited} (record { refusal = e; sheet = s }) (tried d s s′)
-unfolding tried
+pub tried-due : (d : ℕ) (s s′ : Sheet) {e : ℕ} → e ≡ d → (e ≡ 0 → ⊥) → _≡_ {A = Edited} (record { refusal = e; sheet = s }) (unlessRefused d s s′)
+unfolding unlessRefused
 tried-due d s s′ {e} p h = rw (← p, ne-eqb e 0 h)
 
 pub answered-none : (d : ℕ) (a : Answer) → d ≡ 0 → a ≡ unlessDue d a

@@ -18,5 +18,5 @@ abbrev pub dueEmpty : Sheet → ℕ → ℕ
 dueEmpty s case = dueEmptyAt (kindAt s case) case
 
 -- If none is due, the table of tags says what becomes of the sheet; otherwise it stays as it was.
-unfoldable pub tried : ℕ → Sheet → Sheet → Edited
-tried due s s′ = record { refusal = due; sheet = cond (eqb due 0) s′ s }
+unfoldable pub unlessRefused : ℕ → Sheet → Sheet → Edited
+unlessRefused due s s′ = record { refusal = due; sheet = cond (eqb due 0) s′ s }

@@ -14,7 +14,7 @@ ghost use Rattle.sheet.specs.Sheet.{fresh, withKind, withEffects, withCa
 ghost use Rattle.sheet.specs.Range.{InRange};
 ghost use Rattle.sheet.specs.Looks.{extremesAt, utilisationAt, unlessDue, edited, dueUtilisation, lookedExtremes, lookedUtilisation, ExtremesPromised, UtilisationPromised};
 ghost use Rattle.sheet.specs.Parts.{restOf, whole, wholeOf};
-ghost use Rattle.sheet.specs.Edits.{dueFill, dueEffects, dueEmpty, tried};
+ghost use Rattle.sheet.specs.Edits.{dueFill, dueEffects, dueEmpty, unlessRefused};
 use effects::COMPONENTS;
 use effects::EFFECTS;
 use effects::Effects;
@@ -97,7 +97,7 @@ impl Sheet {
     // Tag 01.
     pub fn restart(self, method: u8, live: u8, zone: u8) -> Answered
         requires { ⌜ InRange self ⌝ }
-        ensures { λ r. ⌜ r ≡ edited (tried (dueSettings method live zone) self (fresh (settingsOf method live zone))) ⌝ }
+        ensures { λ r. ⌜ r ≡ edited (unlessRefused (dueSettings method live zone) self (fresh (settingsOf method live zone))) ⌝ }
     {
         let mut effects = self.effects;
         let r = self.rest().restart(&mut effects, method, live, zone);
@@ -106,7 +106,7 @@ impl Sheet {
 
     // Tag 02.
     pub fn fill(self, case: u8, kind: u8) -> Answered
-        ensures { λ r. ⌜ r ≡ edited (tried (dueFill self case kind) self (withKind self case kind)) ⌝ }
+        ensures { λ r. ⌜ r ≡ edited (unlessRefused (dueFill self case kind) self (withKind self case kind)) ⌝ }
     {
         let mut effects = self.effects;
         let r = self.rest().fill(&mut effects, case, kind);
@@ -115,7 +115,7 @@ impl Sheet {
 
     // Tag 03.
     pub fn replace_effects(self, case: u8, station: u8, n: u16, y: u16, z: u16) -> Answered
-        ensures { λ r. ⌜ r ≡ edited (tried (dueEffects self case station n y z) self (withEffects self case station (signed16 n) (signed16 y) (signed16 z))) ⌝ }
+        ensures { λ r. ⌜ r ≡ edited (unlessRefused (dueEffects self case station n y z) self (withEffects self case station (signed16 n) (signed16 y) (signed16 z))) ⌝ }
     {
         let mut effects = self.effects;
         let r = self.rest()
@@ -125,7 +125,7 @@ impl Sheet {
 
     // Tag 04.
     pub fn empty(self, case: u8) -> Answered
-        ensures { λ r. ⌜ r ≡ edited (tried (dueEmpty self case) self (withKind self case 0)) ⌝ }
+        ensures { λ r. ⌜ r ≡ edited (unlessRefused (dueEmpty self case) self (withKind self case 0)) ⌝ }
     {
         let mut effects = self.effects;
         let r = self.rest().empty(&mut effects, case);
@@ -134,7 +134,7 @@ impl Sheet {
 
     // Tag 05.
     pub fn replace_capacities(self, station: u8, n: u16, y: u16, z: u16) -> Answered
-        ensures { λ r. ⌜ r ≡ edited (tried (dueCapacities station n y z) self (withCapacities self station n y z)) ⌝ }
+        ensures { λ r. ⌜ r ≡ edited (unlessRefused (dueCapacities station n y z) self (withCapacities self station n y z)) ⌝ }
     {
         let effects = self.effects;
         let r = self.rest().replace_capacities(station, n, y, z);
@@ -243,7 +243,7 @@ impl Rest {
     // Tag 01.
     pub fn restart(self, effects: &mut Effects, method: u8, live: u8, zone: u8) -> AnsweredRest
         requires { ⌜ InRange (whole self (now effects)) ⌝ }
-        ensures { λ r. ⌜ wholeOf r (now (effects .exit)) ≡ edited (tried (dueSettings method live zone) (whole self (now (effects .entry))) (fresh (settingsOf method live zone))) ⌝ }
+        ensures { λ r. ⌜ wholeOf r (now (effects .exit)) ≡ edited (unlessRefused (dueSettings method live zone) (whole self (now (effects .entry))) (fresh (settingsOf method live zone))) ⌝ }
     {
         let due = refusals::due_settings(method, live, zone);
         if due == 0 {
@@ -262,7 +262,7 @@ impl Rest {
 
     // Tag 02.
     pub fn fill(self, effects: &mut Effects, case: u8, kind: u8) -> AnsweredRest
-        ensures { λ r. ⌜ wholeOf r (now (effects .exit)) ≡ edited (tried (dueFill (whole self (now (effects .entry))) case kind) (whole self (now (effects .entry))) (withKind (whole self (now (effects .entry))) case kind)) ⌝ }
+        ensures { λ r. ⌜ wholeOf r (now (effects .exit)) ≡ edited (unlessRefused (dueFill (whole self (now (effects .entry))) case kind) (whole self (now (effects .entry))) (withKind (whole self (now (effects .entry))) case kind)) ⌝ }
     {
         let k = case as usize;
         let held = wire::byte(&self.kinds, k);
@@ -291,7 +291,7 @@ impl Rest {
         y: u16,
         z: u16,
     ) -> AnsweredRest
-        ensures { λ r. ⌜ wholeOf r (now (effects .exit)) ≡ edited (tried (dueEffects (whole self (now (effects .entry))) case station n y z) (whole self (now (effects .entry))) (withEffects (whole self (now (effects .entry))) case station (signed16 n) (signed16 y) (signed16 z))) ⌝ }
+        ensures { λ r. ⌜ wholeOf r (now (effects .exit)) ≡ edited (unlessRefused (dueEffects (whole self (now (effects .entry))) case station n y z) (whole self (now (effects .entry))) (withEffects (whole self (now (effects .entry))) case station (signed16 n) (signed16 y) (signed16 z))) ⌝ }
     {
         let k = case as usize;
         let held = wire::byte(&self.kinds, k);
@@ -319,7 +319,7 @@ impl Rest {
 
     // Tag 04.
     pub fn empty(self, effects: &mut Effects, case: u8) -> AnsweredRest
-        ensures { λ r. ⌜ wholeOf r (now (effects .exit)) ≡ edited (tried (dueEmpty (whole self (now (effects .entry))) case) (whole self (now (effects .entry))) (withKind (whole self (now (effects .entry))) case 0)) ⌝ }
+        ensures { λ r. ⌜ wholeOf r (now (effects .exit)) ≡ edited (unlessRefused (dueEmpty (whole self (now (effects .entry))) case) (whole self (now (effects .entry))) (withKind (whole self (now (effects .entry))) case 0)) ⌝ }
     {
         let k = case as usize;
         let held = wire::byte(&self.kinds, k);
@@ -340,7 +340,7 @@ impl Rest {
 
     // Tag 05.
     pub fn replace_capacities(self, station: u8, n: u16, y: u16, z: u16) -> AnsweredRest
-        ensures { λ r. ⌜ ((effects : List ℤ) → wholeOf r effects ≡ edited (tried (dueCapacities station n y z) (whole self effects) (withCapacities (whole self effects) station n y z))) ⌝ }
+        ensures { λ r. ⌜ ((effects : List ℤ) → wholeOf r effects ≡ edited (unlessRefused (dueCapacities station n y z) (whole self effects) (withCapacities (whole self effects) station n y z))) ⌝ }
     {
         let due = refusals::due_capacities(station, n, y, z);
         if due == 0 {

@@ -1,4 +1,5 @@
--- What one pass over the cases holds of each kind, for the effects and for the effects negated alike.
+-- What one pass over the cases holds of each kind, for the effects and for the effects negated alike. Nothing here needs to be
+-- believed.
 use Prim.Native.Nat.{ℕ, zero, suc, _+_, _*_, _<_, _≤_, _^_, max}
 use mathlib.Core.Bool.{Bool, true, false, cond}
 use mathlib.Core.List.{List}

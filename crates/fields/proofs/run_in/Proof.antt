@@ -4,7 +4,7 @@ use mathlib.Core.Path.{_≡_, sym, _∙_, ap}
 use Rattle.sheet.specs.Looks.{lookedExtremes, lookedUtilisation}
 use Rattle.sheet.specs.Parts.{whole}
 use Rattle.refusals.specs.Refusals.{dueSettings, dueFillAt, dueEffectsAt, dueEmptyAt, dueCapacities}
-use Rattle.sheet.specs.Edits.{tried}
+use Rattle.sheet.specs.Edits.{unlessRefused}
 use Rattle.fields.specs.Order.{runOf}
 use Rattle.fields.proofs.InOrder.{last-tag}
 use Rattle.fields.proofs.Laws.{extremes-ran, utilisation-ran}
@@ -61,23 +61,23 @@ look-utilisation-requires : tie.Need-look-utilisation-requires
 look-utilisation-requires c κs = search needs
 
 returns : tie.Need-returns
-unfolding runOf tried dueSettings
+unfolding runOf unlessRefused dueSettings
 returns c = rw (c .before .before .before .match .keys1) (c .restart .ensures ∙ (cc))
 
 returns-2 : tie.Need-returns-2
-unfolding runOf tried dueFillAt
+unfolding runOf unlessRefused dueFillAt
 returns-2 c = rw (c .before .before .match .keys2) (c .fill .ensures ∙ (cc))
 
 returns-3 : tie.Need-returns-3
-unfolding runOf tried dueEffectsAt
+unfolding runOf unlessRefused dueEffectsAt
 returns-3 c = rw (c .before .before .before .before .before .match .keys3) (c .replace-effects .ensures ∙ (cc))
 
 returns-4 : tie.Need-returns-4
-unfolding runOf tried dueEmptyAt
+unfolding runOf unlessRefused dueEmptyAt
 returns-4 c = rw (c .before .before .match .keys4) (c .empty .ensures ∙ (cc))
 
 returns-5 : tie.Need-returns-5
-unfolding runOf tried dueCapacities
+unfolding runOf unlessRefused dueCapacities
 returns-5 c = rw (c .before .before .before .before .match .keys5) (c .replace-capacities .ensures _ ∙ (cc))
 
 returns-6 : tie.Need-returns-6
