@@ -5,7 +5,7 @@ use mathlib.Core.Bool.{Bool, true, false, cond}
 use mathlib.Core.List.{List, [], _∷_}
 use mathlib.Core.Path.{_≡_}
 use lib.Dec.{eqb}
-use lib.IntN.{ℤ, pos, negsuc, negℤ}
+use lib.IntN.{ℤ, pos, negℤ}
 use Rattle.standard.specs.declared.Settings.{Settings}
 use Rattle.standard.specs.declared.Capacities.{Capacities}
 use Rattle.standard.specs.Combination.{Combination}
