@@ -34,13 +34,14 @@ use Rattle.headers.specs.Headers.{lengthOf, dueHeader}
 use Rattle.fields.specs.Field.{runOf, fieldOf, reading, readField}
 use Rattle.fields.proofs.Refused.{refused-unchanged}
 use Rattle.fields.proofs.Within.{within}
+use Rattle.saving.specs.declared.Saved.the-variants.{Written}
 use Rattle.saving.proofs.Framing.{front-read}
 use Rattle.saving.proofs.RoundTrip.{round-trip, same-bytes, bytes-differ}
 use Rattle.answers.specs.Answers.{answerBytes, answerRoom}
 use Rattle.decoding.specs.Decoding.{decoded, AnswerFits}
 use Rattle.decoding.proofs.Decoding.{decoded-answer}
 use Rattle.decoding.proofs.Fits.{extremes-fit, utilisation-fits}
-use Rattle.demands.specs.Readings.{Made, ReadOn, Readings, worksOut}
+use Rattle.demands.specs.Readings.{Made, ReadOn, Readings, worksOut, SaveOn, Restores}
 use Rattle.demands.specs.Demands.{Demand1, Demand2, lookExtremes, lookUtilisation, reported, ExtremesAnswered, UtilisationAnswered, Demand3, Demands}
 use Rattle.demands.proofs.Readings.{take-over, works-out, worked-in-range, restores, restores-unique, long-enough, saving-refused, saving-written}
 
@@ -170,14 +171,17 @@ module _ (w : Sheet) (h : InRange w) where
     saves = λ out out′ r f l. long-enough w out out′ l f .0;
   }
 
+  read-back : (out out′ : List ℕ) (n : ℕ) → SaveOn w out (Written n) out′ → (s₀ : Sheet) → Restores (take n out′) s₀ w
+  read-back out out′ n f s₀ = rw (saving-written w out out′ n f) (restores (round-trip w s₀ h))
+
   second : Demand2 w w
   second = record {
     held = refl;
     answered = λ m f. f .reading;
     bytes = λ m f. f .output;
     saved = λ out out′ n f. saving-written w out out′ n f;
-    restored = λ s₀. restores (round-trip w s₀ h);
-    restores-one = λ s₀ s₁ r. restores-unique r (restores (round-trip w s₀ h));
+    restored = λ out out′ n f s₀. read-back out out′ n f s₀;
+    restores-one = λ out out′ n f s₀ s₁ r. restores-unique r (read-back out out′ n f s₀);
     same = λ s₁ g e. same-sheet s₁ w (long g) (long h) (e .settings) (e .kinds) (e .effects) (e .capacities);
     equal = λ s₁ e. same-bytes s₁ w e;
     differ = λ s₁ g e. bytes-differ s₁ w g h e;

@@ -53,12 +53,12 @@ pub record Demand2 (w s : Sheet) : Type 0 where
   -- the bytes that a saving leaves in the output
   pub saved : (out out′ : List ℕ) (n : ℕ) → SaveOn s out (Written n) out′ → take n out′ ≡ savedBytes w
   -- reading them, on any sheet, restores exactly the sheet, and no other
-  pub restored : (s₀ : Sheet) → Restores (savedBytes w) s₀ s
-  pub restores-one : (s₀ s₁ : Sheet) → Restores (savedBytes w) s₀ s₁ → s₁ ≡ s
+  pub restored : (out out′ : List ℕ) (n : ℕ) → SaveOn s out (Written n) out′ → (s₀ : Sheet) → Restores (take n out′) s₀ w
+  pub restores-one : (out out′ : List ℕ) (n : ℕ) → SaveOn s out (Written n) out′ → (s₀ s₁ : Sheet) → Restores (take n out′) s₀ s₁ → s₁ ≡ w
   -- sheets that hold the same are equal, equal sheets save to equal bytes, and sheets that differ to bytes that differ
-  pub same : (s₁ : Sheet) → InRange s₁ → HoldsSame s₁ w → s₁ ≡ s
+  pub same : (s₁ : Sheet) → InRange s₁ → HoldsSame s₁ w → s₁ ≡ w
   pub equal : (s₁ : Sheet) → s₁ ≡ w → savedBytes s₁ ≡ savedBytes s
-  pub differ : (s₁ : Sheet) → InRange s₁ → savedBytes s₁ ≡ savedBytes w → s₁ ≡ s
+  pub differ : (s₁ : Sheet) → InRange s₁ → savedBytes s₁ ≡ savedBytes s → s₁ ≡ w
 
 -- fields of tags 06 and 07, whatever follows them
 abbrev pub lookExtremes : ℕ → ℕ → List ℕ → List ℕ
