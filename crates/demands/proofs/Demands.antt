@@ -2,11 +2,12 @@
 -- Assumes nothing.
 use Prim.Native.Nat.{ℕ, zero, suc, _≤_, _<_}
 use mathlib.Core.Path.{_≡_, refl, sym, ap, _∙_, subst}
-use mathlib.Core.List.{List, [], _∷_, map}
+use mathlib.Core.List.{List, [], _∷_}
 use mathlib.Core.Logic.{_⊎_, inl, inr, ⊎-elim}
 use native.Mathlib.Omega.{arith}
 use borrow.Author.Tests.{le-ltb, ne-eqb}
-use lib.ListN.{length, List·getD-eq-default}
+use lib.ListN.{length, take, List·getD-eq-default}
+use Rattle.wire.specs.Bytes.{over}
 use Rattle.wire.proofs.Cases.{eq-or-ne}
 use Rattle.sheet.specs.declared.Sheet.{Sheet}
 use Rattle.sheet.specs.declared.Answer.the-variants as answer
@@ -16,19 +17,26 @@ use Rattle.sheet.specs.Looks.{stationEffects, capacitiesAt, extremesAt, utilisa
 use Rattle.refusals.specs.Refusals.{dueExtremes, dueUtilisationAt}
 use Rattle.sheet.specs.Range.{InRange}
 use Rattle.sheet.proofs.Kept.{fresh-kept}
+use Rattle.sheet.proofs.Access.{long, same-sheet}
 use Rattle.sheet.proofs.Promised.{extremes-govern-at, utilisation-governs-at}
 use Rattle.fields.specs.declared.Reading.{Reading}
 use Rattle.headers.specs.Headers.{lengthOf, dueHeader}
 use Rattle.fields.specs.Field.{readField}
-use Rattle.fields.specs.Order.{runOf, fieldOf}
+use Rattle.fields.specs.Order.{runOf, fieldOf, reading}
 use Rattle.fields.proofs.Kept.{read-kept}
 use Rattle.fields.proofs.Refused.{refused-unchanged}
 use Rattle.fields.proofs.Within.{within}
+use Rattle.saving.specs.declared.Saved.the-variants.{Written}
 use Rattle.saving.proofs.Framing.{front-read}
-use Rattle.saving.proofs.RoundTrip.{round-trip, read-unique, same-bytes}
+use Rattle.saving.proofs.RoundTrip.{round-trip, same-bytes, bytes-differ}
+use Rattle.answers.specs.Answers.{answerBytes, answerRoom}
+use Rattle.decoding.specs.Decoding.{decoded, AnswerFits}
+use Rattle.decoding.proofs.Decoding.{decoded-answer}
+use Rattle.decoding.proofs.Fits.{extremes-fit, utilisation-fits}
+use Rattle.demands.specs.Readings.{Made, ReadOn, Readings, worksOut, SaveOn, Restores}
+use Rattle.demands.specs.Demands.{Demand1, Demand2, lookExtremes, lookUtilisation, reported, ExtremesAnswered, UtilisationAnswered, Demand3, Demands}
 use Rattle.demands.proofs.Due.{due-most, none-due, due-refused, refused-due, full-consumed, short-consumed, field-consumed}
-use Rattle.demands.specs.Demands.{Given, sheetFrom, Made, ReadOn, Readings, none, next, given, worksOut, Demand1, Demand2, lookExtremes, lookUtilisation, ExtremesAnswered, UtilisationAnswered, Demand3, Demands}
-use Rattle.answers.specs.Answers.{answerRoom}
+use Rattle.demands.proofs.Readings.{take-over, works-out, worked-in-range, restores, restores-unique, long-enough, saving-refused, saving-written}
 
 -- ---- a sheet in range
 module _ (w : Sheet) (h : InRange w) where
@@ -47,8 +55,15 @@ module _ (w : Sheet) (h : InRange w) where
       let p : t ≤ 15 = omega arith in
       rw (le-ltb 15 t p, ne-eqb (capacityAt w t 0) 0 (λ e. omega arith))
 
+  -- the bytes written say what is answered
+  reported-is : (m : Made) {n : ℕ} {a : Answered} → ReadOn w m → m .result ≡ reading n a → AnswerFits (a .answer) → reported m ≡ a .answer
+  reported-is m {n} {a} f r fits =
+      let long : m .result .written ≡ length (answerBytes (a .answer)) = ap (λ (x : Reading). x .written) r in
+      let out : m .out′ ≡ over (answerBytes (a .answer)) (m .out) = f .output ∙ ap (λ (x : Reading). over (answerBytes (x .answer)) (m .out)) r in
+      (λ i. decoded (take (long i) (out i))) ∙ ap decoded (take-over (answerBytes (a .answer)) (m .out)) ∙ decoded-answer (a .answer) fits
+
   extremes-answered : (t j : ℕ) → t < 16 → j < 3 → (m : Made) (rest : List ℕ) → answerRoom ≤ length (m .out) → m .input ≡ lookExtremes t j rest →
-      ReadOn w m → ExtremesAnswered w t j (m .result)
+      ReadOn w m → ExtremesAnswered w t j m
   extremes-answered t j a b m rest room i f =
       let two : 2 < 256 = omega arith in
       let r = f .reading ∙ ap (λ (x : List ℕ). readField x (length (m .out)) w) i ∙ front-read 6 (t ∷ j ∷ []) rest (length (m .out)) w room two (extremes-field t j a b) in
@@ -56,18 +71,20 @@ module _ (w : Sheet) (h : InRange w) where
       record {
         extremes = extremesAt w t j;
         answered = ap (λ (y : Reading). y .answer) r;
+        bytes = reported-is m f r (extremes-fit w t h a j);
         maximum = g .maximum;
         minimum = g .minimum;
       }
 
   utilisation-answered : (t : ℕ) → t < 16 → 0 < capacityAt w t 0 → (m : Made) (rest : List ℕ) → answerRoom ≤ length (m .out) →
-      m .input ≡ lookUtilisation t rest → ReadOn w m → UtilisationAnswered w t (m .result)
+      m .input ≡ lookUtilisation t rest → ReadOn w m → UtilisationAnswered w t m
   utilisation-answered t a c m rest g i f =
       let one : 1 < 256 = omega arith in
       let r = f .reading ∙ ap (λ (x : List ℕ). readField x (length (m .out)) w) i ∙ front-read 7 (t ∷ []) rest (length (m .out)) w g one (utilisation-field t a c) in
       record {
         used = utilisationAt w t;
         answered = ap (λ (y : Reading). y .answer) r;
+        bytes = reported-is m f r (utilisation-fits w t h a c);
         greatest = utilisation-governs-at w h t a .greatest;
       }
 
@@ -100,34 +117,28 @@ module _ (w : Sheet) (h : InRange w) where
     consumed = λ m f. within (m .input) (m .out) w h f .consumed;
     written = λ m f. within (m .input) (m .out) w h f .written;
     goes-on = λ m f. within (m .input) (m .out) w h f .in-range;
+    unsaved = λ out out′ n f. saving-refused w out out′ n f;
+    saves = λ out out′ r f l. long-enough w out out′ l f .0;
   }
+
+  read-back : (out out′ : List ℕ) (n : ℕ) → SaveOn w out (Written n) out′ → (s₀ : Sheet) → Restores (take n out′) s₀ w
+  read-back out out′ n f s₀ = rw (saving-written w out out′ n f) (restores (round-trip w s₀ h))
 
   second : Demand2 w w
   second = record {
     held = refl;
     answered = λ m f. f .reading;
     bytes = λ m f. f .output;
-    restored = λ s₀. round-trip w s₀ h;
-    restores-one = λ s₀ s₁ r. read-unique r (round-trip w s₀ h);
+    saved = λ out out′ n f. saving-written w out out′ n f;
+    restored = λ out out′ n f s₀. read-back out out′ n f s₀;
+    restores-one = λ out out′ n f s₀ s₁ r. restores-unique r (read-back out out′ n f s₀);
+    same = λ s₁ g e. same-sheet s₁ w (long g) (long h) (e .settings) (e .kinds) (e .effects) (e .capacities);
     equal = λ s₁ e. same-bytes s₁ w e;
+    differ = λ s₁ g e. bytes-differ s₁ w g h e;
   }
 
   third : Demand3 w w
   third = record { extremes = extremes-answered; utilisation = utilisation-answered }
-
--- ---- any list of readings
-after-in-range : (s : Sheet) (gs : List Given) → InRange s → InRange (sheetFrom s gs)
-unfolding sheetFrom
-after-in-range s [] h = h
-after-in-range s (g ∷ gs) h = after-in-range _ gs (read-kept (g .input) (g .room) s h)
-
-works-out : {s s′ : Sheet} {ms : List Made} → Readings s ms s′ → s′ ≡ sheetFrom s (map given ms)
-unfolding sheetFrom
-works-out none = refl
-works-out (next {m} {ms} f r) = works-out r ∙ ap (λ (x : Reading). sheetFrom (x .sheet) (map given ms)) (f .reading)
-
-worked-in-range : (ms : List Made) → InRange (worksOut ms)
-worked-in-range ms = after-in-range freshSheet (map given ms) fresh-kept
 
 -- what holds of the sheet worked out, held by the service
 module _ (ms : List Made) {s : Sheet} (r : Readings freshSheet ms s) where

@@ -1,3 +1,4 @@
 pub mod Due
+pub mod Readings
 pub mod Demands
 pub mod Worked

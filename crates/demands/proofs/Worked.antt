@@ -5,7 +5,7 @@ use native.Mathlib.Omega.{arith}
 use mathlib.Core.Bool.{Bool, true, false, not, _&&_, _||_}
 use mathlib.Core.List.{List, [], _∷_}
 use mathlib.Core.Logic.{_⊎_, inl, inr}
-use mathlib.Core.Path.{_≡_, refl, sym, ap, _∙_, subst}
+use mathlib.Core.Path.{_≡_, refl, ap, subst}
 use lib.Dec.{T, eqb, leb, eqb→eq, leb→le}
 use lib.IntN.{ℤ, pos, negsuc, negℤ}
 use lib.ListN.{length, List·getD-eq-default}
@@ -15,7 +15,7 @@ use Rattle.standard.specs.declared.Settings.{Settings}
 use Rattle.standard.specs.declared.Capacities.{Capacities}
 use Rattle.standard.specs.Kinds.{classOf}
 use Rattle.standard.specs.Rows.{factorOf, lowOf, plainRows, floodRows, openRows}
-use Rattle.standard.specs.Combination.{Combination, caseCount, denominatorOf}
+use Rattle.standard.specs.Combination.{caseCount, denominatorOf}
 use Rattle.standard.specs.Governing.{Maximum, Minimum, Utilisation}
 use Rattle.optimum.specs.Row.{lowerOf, leastOf, greatestOf, groupOf, rowMaximum}
 use Rattle.envelope.specs.declared.Extreme.{Extreme}

@@ -2,58 +2,29 @@
 use Prim.Native.Nat.{ℕ, _+_, _≤_, _<_}
 use mathlib.Core.Path.{_≡_}
 use mathlib.Core.Logic.{_↔_}
-use mathlib.Core.List.{List, [], _∷_, map}
-use lib.ListN.{length}
+use mathlib.Core.List.{List, _∷_}
+use lib.ListN.{length, take}
 use Rattle.wire.specs.Bytes.{over}
-use Rattle.standard.specs.Combination.{Combination, named}
+use Rattle.standard.specs.Combination.{Combination, caseCount, named}
 use Rattle.standard.specs.Governing.{Maximum, Minimum, Utilisation}
+use Rattle.envelope.specs.Range.{stationCount, componentCount}
 use Rattle.envelope.specs.declared.Extreme.{Extreme}
 use Rattle.envelope.specs.declared.Extremes as extremes
 use Rattle.envelope.specs.declared.Utilised.{Utilised}
 use Rattle.sheet.specs.declared.Sheet.{Sheet}
+use Rattle.sheet.specs.declared.Answer.{Answer}
 use Rattle.sheet.specs.declared.Answer.the-variants as answer
 use Rattle.sheet.specs.Sheet.{freshSheet, kindAt, effectAt, capacityAt}
 use Rattle.sheet.specs.Looks.{capacitiesAt}
 use Rattle.sheet.specs.Range.{InRange}
-use Rattle.fields.specs.declared.Reading.{Reading}
 use Rattle.fields.specs.Tags.{lengthIn, bodyOf, due}
 use Rattle.fields.specs.Field.{fieldTag, readField}
 use Rattle.answers.specs.Answers.{answerBytes, answerRoom}
-use Rattle.fields.specs.Readings.{FieldRead, ReadThrough}
+use Rattle.decoding.specs.Decoding.{decoded}
+use Rattle.saving.specs.declared.Saved.{Saved}
+use Rattle.saving.specs.declared.Saved.the-variants.{Written, Refused}
 use Rattle.saving.specs.Saved.{savedBytes}
-
--- what is given to a reading: bytes, and the length of the output
-pub record Given : Type 0 where
-  pub input : List ℕ
-  pub room : ℕ
-
--- the sheet that the definitions work out from what is given, and from nothing else
-unfoldable pub sheetFrom : Sheet → List Given → Sheet
-sheetFrom s [] = s
-sheetFrom s (g ∷ gs) = sheetFrom (readField (g .input) (g .room) s .sheet) gs
-
--- a reading that was made: its bytes, the output before it, what it returned, and the output after it
-pub record Made : Type 0 where
-  pub input : List ℕ
-  pub out : List ℕ
-  pub result : Reading
-  pub out′ : List ℕ
-
--- what `read_field` ensures of a reading made on a sheet
-abbrev pub ReadOn : Sheet → Made → Type 0
-ReadOn s m = FieldRead (m .input) (m .out) s (m .result) (m .out′)
-
--- readings from a sheet to a sheet, each on the sheet that the one before returned
-pub data Readings : Sheet → List Made → Sheet → Type 0 where
-  none : {s : Sheet} → Readings s [] s
-  next : {m : Made} {ms : List Made} {s s′ : Sheet} → ReadOn s m → Readings (m .result .sheet) ms s′ → Readings s (m ∷ ms) s′
-
-abbrev pub given : Made → Given
-given m = record { input = m .input; room = length (m .out) }
-
--- the sheet worked out from a list of readings, the first on a fresh sheet
-abbrev pub worksOut : List Made → Sheet
-worksOut ms = sheetFrom freshSheet (map given ms)
+use Rattle.demands.specs.Readings.{Made, ReadOn, Readings, worksOut, SaveOn, Restores}
 
 -- the first refusal that is due on a reading, by its bytes and the length of its output, 0 where none is
 abbrev pub dueOn : Sheet → Made → ℕ
@@ -76,6 +47,16 @@ pub record Demand1 (w s : Sheet) : Type 0 where
   pub consumed : (m : Made) → ReadOn s m → m .result .consumed ≤ length (m .input)
   pub written : (m : Made) → ReadOn s m → m .result .written ≤ length (m .out)
   pub goes-on : (m : Made) → ReadOn s m → InRange (m .result .sheet)
+  -- saving is refused by 14 with the output unchanged, and only where the output is too short
+  pub unsaved : (out out′ : List ℕ) (n : ℕ) → SaveOn s out (Refused n) out′ → (n ≡ 14) × (out′ ≡ out)
+  pub saves : (out out′ : List ℕ) (r : Saved) → SaveOn s out r out′ → length (savedBytes w) ≤ length out → r ≡ Written (length (savedBytes w))
+
+-- two sheets hold the same, by their accessors
+pub record HoldsSame (a b : Sheet) : Type 0 where
+  pub settings : a .settings ≡ b .settings
+  pub kinds : (k : ℕ) → k < caseCount → kindAt a k ≡ kindAt b k
+  pub effects : (k t j : ℕ) → k < caseCount → t < stationCount → j < componentCount → effectAt a k t j ≡ effectAt b k t j
+  pub capacities : (t j : ℕ) → t < stationCount → j < componentCount → capacityAt a t j ≡ capacityAt b t j
 
 -- Demand 2
 pub record Demand2 (w s : Sheet) : Type 0 where
@@ -84,11 +65,15 @@ pub record Demand2 (w s : Sheet) : Type 0 where
   -- the answer, the sheet and every byte are those of the definitions
   pub answered : (m : Made) → ReadOn s m → m .result ≡ readField (m .input) (length (m .out)) w
   pub bytes : (m : Made) → ReadOn s m → m .out′ ≡ over (answerBytes (m .result .answer)) (m .out)
-  -- reading a saved sheet, on any sheet, restores exactly it
-  pub restored : (s₀ : Sheet) → ReadThrough (savedBytes s) s₀ w
-  pub restores-one : (s₀ s₁ : Sheet) → ReadThrough (savedBytes s) s₀ s₁ → s₁ ≡ w
-  -- equal sheets save to equal bytes
+  -- the bytes that a saving leaves in the output
+  pub saved : (out out′ : List ℕ) (n : ℕ) → SaveOn s out (Written n) out′ → take n out′ ≡ savedBytes w
+  -- reading them, on any sheet, restores exactly the sheet, and no other
+  pub restored : (out out′ : List ℕ) (n : ℕ) → SaveOn s out (Written n) out′ → (s₀ : Sheet) → Restores (take n out′) s₀ w
+  pub restores-one : (out out′ : List ℕ) (n : ℕ) → SaveOn s out (Written n) out′ → (s₀ s₁ : Sheet) → Restores (take n out′) s₀ s₁ → s₁ ≡ w
+  -- sheets that hold the same are equal, equal sheets save to equal bytes, and sheets that differ to bytes that differ
+  pub same : (s₁ : Sheet) → InRange s₁ → HoldsSame s₁ w → s₁ ≡ w
   pub equal : (s₁ : Sheet) → s₁ ≡ w → savedBytes s₁ ≡ savedBytes s
+  pub differ : (s₁ : Sheet) → InRange s₁ → savedBytes s₁ ≡ savedBytes s → s₁ ≡ w
 
 -- fields of tags 06 and 07, whatever follows them
 abbrev pub lookExtremes : ℕ → ℕ → List ℕ → List ℕ
@@ -101,17 +86,23 @@ lookUtilisation station rest = 7 ∷ 0 ∷ 1 ∷ station ∷ rest
 abbrev pub namedBy : Extreme → Combination
 namedBy x = named (x .row) (x .acting) (x .low)
 
+-- what the bytes written by a reading say
+abbrev pub reported : Made → Answer
+reported m = decoded (take (m .result .written) (m .out′))
+
 -- every admissible combination gives at most the maximum and at least the minimum; those named are admissible and exact
-pub record ExtremesAnswered (w : Sheet) (station component : ℕ) (r : Reading) : Type 0 where
+pub record ExtremesAnswered (w : Sheet) (station component : ℕ) (m : Made) : Type 0 where
   pub extremes : extremes.Extremes
-  pub answered : r .answer ≡ answer.Extremes extremes
+  pub answered : m .result .answer ≡ answer.Extremes extremes
+  pub bytes : reported m ≡ answer.Extremes extremes
   pub maximum : Maximum (w .settings) (kindAt w) (λ k. effectAt w k station component) (namedBy (extremes .maximum)) (extremes .maximum .value)
   pub minimum : Minimum (w .settings) (kindAt w) (λ k. effectAt w k station component) (namedBy (extremes .minimum)) (extremes .minimum .value)
 
 -- every admissible combination has at most the utilisation; the one named is admissible and exact; the verdict
-pub record UtilisationAnswered (w : Sheet) (station : ℕ) (r : Reading) : Type 0 where
+pub record UtilisationAnswered (w : Sheet) (station : ℕ) (m : Made) : Type 0 where
   pub used : Utilised
-  pub answered : r .answer ≡ answer.Utilisation used
+  pub answered : m .result .answer ≡ answer.Utilisation used
+  pub bytes : reported m ≡ answer.Utilisation used
   pub greatest :
       Utilisation (w .settings) (kindAt w) (λ k j. effectAt w k station j) (capacitiesAt w station)
       (named (used .row) (used .acting) (used .low)) (used .numerator) (used .denominator) (used .pass)
@@ -119,9 +110,9 @@ pub record UtilisationAnswered (w : Sheet) (station : ℕ) (r : Reading) : Type 
 -- Demand 3: at each station and component, and at each station with capacities, with room for an answer
 pub record Demand3 (w s : Sheet) : Type 0 where
   pub extremes : (station component : ℕ) → station < 16 → component < 3 → (m : Made) (rest : List ℕ) → answerRoom ≤ length (m .out) →
-      m .input ≡ lookExtremes station component rest → ReadOn s m → ExtremesAnswered w station component (m .result)
+      m .input ≡ lookExtremes station component rest → ReadOn s m → ExtremesAnswered w station component m
   pub utilisation : (station : ℕ) → station < 16 → 0 < capacityAt w station 0 → (m : Made) (rest : List ℕ) → answerRoom ≤ length (m .out) →
-      m .input ≡ lookUtilisation station rest → ReadOn s m → UtilisationAnswered w station (m .result)
+      m .input ≡ lookUtilisation station rest → ReadOn s m → UtilisationAnswered w station m
 
 -- The three demands. After any list of readings, the first on a fresh sheet and each later one on the sheet that the one before
 -- returned, they hold of the sheet worked out from the list and of the sheet that the last reading returned.

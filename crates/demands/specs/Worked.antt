@@ -1,11 +1,11 @@
--- 01, 'Frames worked by hand': cases P1 to P10, at one station with N only, as one table; after them two cases of each kind that
--- acts at most once.
+-- 01, 'Frames worked by hand': cases P1 to P10, at one station with N only, as one table; after them
+-- further frames, each for a sentence of 01 that none of these tries.
 use Prim.Native.Nat.{ℕ}
 use mathlib.Core.Bool.{Bool, true, false, cond}
 use mathlib.Core.List.{List, [], _∷_}
 use mathlib.Core.Path.{_≡_}
 use lib.Dec.{eqb}
-use lib.IntN.{ℤ, pos, negsuc, negℤ}
+use lib.IntN.{ℤ, pos, negℤ}
 use Rattle.standard.specs.declared.Settings.{Settings}
 use Rattle.standard.specs.declared.Capacities.{Capacities}
 use Rattle.standard.specs.Combination.{Combination}
@@ -104,9 +104,20 @@ worked =
     ∷ (frame 2 0 0 (L ∷ E ∷ S ∷ []) (pos 40 ∷ pos 20 ∷ pos 8 ∷ []) says maximumInRow (pos 46500) 28)
     ∷ (frame 1 0 0 (F ∷ W ∷ []) (minus 30 ∷ pos 100 ∷ []) says maximumInRow (pos 100000) 7)
     ∷ (frame 1 0 0 (S ∷ R ∷ []) (pos 100 ∷ pos 100 ∷ []) says maximum (pos 160000))
+    -- at most one E, one W, one Fa
     ∷ (frame 1 0 0 (E ∷ E ∷ []) (pos 100 ∷ pos 100 ∷ []) says maximum (pos 100000))
     ∷ (frame 1 0 0 (W ∷ W ∷ []) (pos 100 ∷ pos 100 ∷ []) says maximum (pos 100000))
     ∷ (frame 1 0 1 (Fa ∷ Fa ∷ []) (pos 100 ∷ pos 100 ∷ []) says maximum (pos 200000))
+    -- each Hp at the full factor or the low one, free of the others; the low one of method 2
+    ∷ (frame 1 0 0 (Hp ∷ Hp ∷ []) (pos 50 ∷ minus 50 ∷ []) says maximum (pos 35000))
+    ∷ (frame 2 0 0 (W ∷ Hp ∷ []) (p5 .effects) says maximum (pos 30000))
+    -- the live option leaves row 2; row 29 has no F; row 6 takes snow only
+    ∷ (frame 1 1 0 (L ∷ []) (pos 100 ∷ []) says maximumInRow (pos 160000) 2)
+    ∷ (frame 2 0 0 (F ∷ W ∷ []) (minus 30 ∷ pos 100 ∷ []) says maximumInRow (pos 60000) 29)
+    ∷ (frame 1 0 0 (R ∷ E ∷ []) (pos 10 ∷ pos 100 ∷ []) says maximum (pos 100000))
+    -- flood rows of method 2: no E beside Fa, and the factor of zone 2
+    ∷ (frame 2 0 1 (E ∷ Fa ∷ []) (pos 100 ∷ pos 100 ∷ []) says maximum (pos 150000))
+    ∷ (frame 2 0 2 (Fa ∷ []) (pos 100 ∷ []) says maximum (pos 75000))
     ∷ []
 
 abbrev pub All : List Entry → Type 0
