@@ -34,8 +34,8 @@ use Rattle.fields.specs.Field.{runOf, fieldOf, readField}
 use Rattle.fields.proofs.Kept.{read-kept}
 use Rattle.fields.proofs.Refused.{refused-unchanged}
 use Rattle.fields.proofs.Within.{within}
-use Rattle.saving.proofs.Framing.{front-read}
-use Rattle.saving.proofs.RoundTrip.{round-trip, read-unique, same-bytes}
+use Rattle.restoring.proofs.Framing.{front-read}
+use Rattle.restoring.proofs.RoundTrip.{round-trip, read-unique, same-bytes}
 use Rattle.demands.specs.Demands.{Given, sheetFrom, Made, ReadOn, Readings, none, next, given, worksOut, Demand1, Demand2, lookExtremes, lookUtilisation, ExtremesAnswered, UtilisationAnswered, Demand3}
 use Rattle.answers.specs.Answers.{answerRoom}
 

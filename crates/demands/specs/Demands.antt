@@ -18,7 +18,7 @@ use Rattle.fields.specs.declared.Reading.{Reading}
 use Rattle.fields.specs.Field.{readField}
 use Rattle.answers.specs.Answers.{answerBytes, answerRoom}
 use Rattle.fields.specs.Readings.{FieldRead, ReadThrough}
-use Rattle.saving.specs.Saved.{savedBytes}
+use Rattle.saved_fields.specs.Saved.{savedBytes}
 
 -- what is given to a reading: bytes, and the length of the output
 pub record Given : Type 0 where
