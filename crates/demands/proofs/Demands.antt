@@ -27,8 +27,8 @@ use Rattle.fields.proofs.Kept.{read-kept}
 use Rattle.fields.proofs.Refused.{refused-unchanged}
 use Rattle.fields.proofs.Within.{within}
 use Rattle.saving.specs.declared.Saved.the-variants.{Written}
-use Rattle.saving.proofs.Framing.{front-read}
-use Rattle.saving.proofs.RoundTrip.{round-trip, same-bytes, bytes-differ}
+use Rattle.restoring.proofs.Framing.{front-read}
+use Rattle.restoring.proofs.RoundTrip.{round-trip, same-bytes, bytes-differ}
 use Rattle.answers.specs.Answers.{answerBytes, answerRoom}
 use Rattle.decoding.specs.Decoding.{decoded, AnswerFits}
 use Rattle.decoding.proofs.Decoding.{decoded-answer}

@@ -22,7 +22,8 @@ use Rattle.fields.proofs.Consumed.{same-with-room}
 use Rattle.answers.specs.Answers.{answerBytes, answerRoom}
 use Rattle.saving.specs.declared.Saved.{Saved}
 use Rattle.saving.specs.declared.Saved.the-variants.{Written, Refused}
-use Rattle.saving.specs.Saved.{savedBytes, savedAnswer, savedOver}
+use Rattle.saved_fields.specs.Saved.{savedBytes}
+use Rattle.saving.specs.Saving.{savedAnswer, savedOver}
 use Rattle.demands.specs.Readings.{Given, sheetFrom, Made, made, Readings, none, next, given, worksOut, Call, AnyReadings, SaveOn, ReadsFrom, Restores, no-more, one-more}
 
 -- ---- what is written over the front of an output stands there

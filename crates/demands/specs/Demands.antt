@@ -23,7 +23,7 @@ use Rattle.answers.specs.Answers.{answerBytes, answerRoom}
 use Rattle.decoding.specs.Decoding.{decoded}
 use Rattle.saving.specs.declared.Saved.{Saved}
 use Rattle.saving.specs.declared.Saved.the-variants.{Written, Refused}
-use Rattle.saving.specs.Saved.{savedBytes}
+use Rattle.saved_fields.specs.Saved.{savedBytes}
 use Rattle.demands.specs.Readings.{Made, ReadOn, Readings, worksOut, SaveOn, Restores}
 
 -- the first refusal that is due on a reading, by its bytes and the length of its output, 0 where none is

@@ -12,7 +12,7 @@ use Rattle.fields.specs.Field.{readField}
 use Rattle.fields.specs.Readings.{FieldRead}
 use Rattle.answers.specs.Answers.{answerRoom}
 use Rattle.saving.specs.declared.Saved.{Saved}
-use Rattle.saving.specs.Saved.{savedAnswer, savedOver}
+use Rattle.saving.specs.Saving.{savedAnswer, savedOver}
 
 -- what is given to a reading: bytes, and the length of the output
 pub record Given : Type 0 where

@@ -1,4 +1,4 @@
--- What the exported calls come to: the state loaded, the fields answered, and the refusals.
+-- What the exported calls come to: the fields answered, and the refusals.
 -- Assumes nothing.
 use Prim.Native.Nat.{ℕ, _*_, _/_, _≤_}
 use mathlib.Core.Path.{_≡_, refl, sym, _∙_, ap}
@@ -15,29 +15,21 @@ use Rattle.wire.specs.Bytes.{over}
 use Rattle.wire.proofs.Cases.{lt-or-ge}
 use Rattle.wire.proofs.Stores.{front}
 use Rattle.sheet.specs.declared.Sheet.{Sheet}
-use Rattle.sheet.specs.Sheet.{freshSheet}
-use Rattle.sheet.specs.Range.{InRange}
 use Rattle.sheet.specs.Parts.{whole}
-use Rattle.sheet.proofs.Kept.{fresh-kept}
-use Rattle.saving.specs.Saved.{savedBytes, savedMost, savedAnswer, savedOver}
+use Rattle.saved_fields.specs.Saved.{savedBytes, savedMost}
+use Rattle.saving.specs.Saving.{savedAnswer, savedOver}
 use Rattle.saving.specs.declared.Saved.{Saved}
-use Rattle.saving.proofs.Lengths.{saved-most}
-use Rattle.frames_c.specs.declared.Progress.{Progress}
+use Rattle.saved_fields.proofs.Lengths.{saved-most}
+use Rattle.loading.specs.declared.Progress.{Progress}
 use Rattle.lists.specs.Lists.{fieldsOf, sheetAfter, answersTo, bytesOf}
-use Rattle.lists.proofs.Joins.{kept-after, answers-long}
-use Rattle.frames_c.specs.Calls.{loaded, dueState, short, dueAnswer, dueRun, AnswerDone, RunDone}
-use Rattle.frames_c.specs.Loop.{State, starting, steppedAll, stateOf, Room, countOf}
-use Rattle.frames_c.proofs.Loop.{sheet-after, refusal-after, written-after, output-after}
+use Rattle.lists.proofs.Joins.{answers-long}
+use Rattle.loading.specs.Loaded.{loaded, dueState}
+use Rattle.frames_c.specs.Calls.{short, dueAnswer, dueRun, AnswerDone, RunDone, countOf}
+use Rattle.loading.specs.Loop.{State, starting, steppedAll, stateOf, Room}
+use Rattle.loading.proofs.Loop.{sheet-after, written-after, output-after}
 use Rattle.answers.specs.Answers.{answerRoom}
 
--- the end of the loop over a state, and over the fields of a call
-pub load-is : (state : List ℕ) (p : Progress) (effects : List ℤ) (o : List ℕ) {o′ : List ℕ} →
-    stateOf p effects o′ ≡ steppedAll false (starting freshSheet o) (fieldsOf state) →
-    (whole (p .rest) effects ≡ loaded state) × (p .refusal ≡ dueState state) × InRange (whole (p .rest) effects)
-load-is state p effects o e =
-    let s : whole (p .rest) effects ≡ loaded state = ap (λ (x : State). x .sheet) e ∙ sheet-after false (fieldsOf state) (starting freshSheet o) in
-    (s, ap (λ (x : State). x .refusal) e ∙ refusal-after false (fieldsOf state) (starting freshSheet o), rw s (kept-after (fieldsOf state) freshSheet fresh-kept))
-
+-- the end of the loop over the fields of a call
 record Ended (input : List ℕ) (s : Sheet) (o : List ℕ) (q : Progress) (effects : List ℤ) (o′ : List ℕ) : Type 0 where
   sheet : whole (q .rest) effects ≡ sheetAfter (fieldsOf input) s
   written : q .written ≡ length (bytesOf (answersTo (fieldsOf input) s))

@@ -1,5 +1,2 @@
 pub mod Counts
-pub mod Steps
-pub mod Loop
 pub mod Calls
-pub mod States

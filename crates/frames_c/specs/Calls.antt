@@ -1,38 +1,18 @@
 -- Lists of fields on a sheet that is given as its saved bytes: what each exported call answers, writes and saves.
 use Prim.Native.Nat.{ℕ, _*_}
-use mathlib.Core.List.{List, [], _∷_}
+use mathlib.Core.List.{List}
 use mathlib.Core.Path.{_≡_}
 use mathlib.Core.Bool.{Bool, cond}
 use lib.ListN.{length}
 use lib.Dec.{ltb, eqb}
 use Rattle.wire.specs.Bytes.{over}
-use Rattle.sheet.specs.declared.Sheet.{Sheet}
-use Rattle.sheet.specs.declared.Answer.{Answer}
-use Rattle.sheet.specs.declared.Answer.the-variants as answer
-use Rattle.sheet.specs.Sheet.{freshSheet}
 use Rattle.lists.specs.Lists.{fieldsOf, sheetAfter, answersTo, bytesOf}
-use Rattle.saving.specs.Saved.{savedBytes, savedMost}
+use Rattle.saved_fields.specs.Saved.{savedBytes, savedMost}
+use Rattle.saving.specs.declared.Saved.{Saved}
+use Rattle.saving.specs.declared.Saved.the-variants.{Written, Refused}
+use Rattle.loading.specs.Loaded.{loaded, dueState}
 use Rattle.frames_c.specs.declared.Ran.{Ran}
 use Rattle.answers.specs.Answers.{answerRoom}
-
--- 01, 'Saving': a saved sheet has fields that are accepted, and tags 06 and 07 are none of its tags
-abbrev pub refusalOf : Answer → ℕ
-refusalOf answer.Accepted = 0
-refusalOf (answer.Refused n) = n
-refusalOf (answer.Extremes x) = 1
-refusalOf (answer.Utilisation x) = 1
-
--- the first refusal, or 0
-unfoldable pub firstRefusal : List Answer → ℕ
-firstRefusal [] = 0
-firstRefusal (a ∷ rest) = cond (eqb (refusalOf a) 0) (firstRefusal rest) (refusalOf a)
-
--- the sheet that a state gives, and its refusal
-abbrev pub loaded : List ℕ → Sheet
-loaded state = sheetAfter (fieldsOf state) freshSheet
-
-abbrev pub dueState : List ℕ → ℕ
-dueState state = firstRefusal (answersTo (fieldsOf state) freshSheet)
 
 -- 01, 'Answer fields': 14 comes first, for an output of under 37 bytes for each field
 abbrev pub short : List ℕ → ℕ → Bool
@@ -70,3 +50,8 @@ pub record RunDone (state input output place : List ℕ) (r : Ran) (output′ pl
   pub result : r ≡ ranUnless (dueRun state input (length output) (length place)) (length (answered state input)) (length (savedAfter state input))
   pub written : output′ ≡ overUnless (dueRun state input (length output) (length place)) (answered state input) output
   pub saved : place′ ≡ overUnless (dueRun state input (length output) (length place)) (savedAfter state input) place
+
+-- how many bytes were saved
+abbrev pub countOf : Saved → ℕ
+countOf (Written n) = n
+countOf (Refused n) = 0

@@ -8,7 +8,7 @@ use mathlib.Core.Logic.{⊎-elim}
 use native.Mathlib.Omega.{arith}
 use Rattle.wire.proofs.Cases.{either}
 use Rattle.sheet.specs.declared.Sheet.{Sheet}
-use Rattle.stream.specs.Turns.{Turned, Turns, none, turn, Served}
+use Rattle.pieces.specs.Turns.{Turned, Turns, none, turn, Served}
 
 -- the turns, and how many are left: none after one that does not go on
 pub record Serving (room : ℕ) (s₀ s : Sheet) (held : List ℕ) (more : Bool) (left : ℕ) : Type 0 where

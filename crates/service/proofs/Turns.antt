@@ -19,19 +19,15 @@ use Rattle.headers.specs.Headers.{readyOf}
 use Rattle.lists.specs.Lists.{fieldsOf, spanOf, answersTo, bytesOf}
 use Rattle.stream.specs.declared.Progress.{Progress}
 use Rattle.stream.specs.Answering.{answeredOf, begun, Progressed}
-use Rattle.stream.specs.Turns.{Turned}
-use Rattle.stream.proofs.Ends.{end-fields}
+use Rattle.pieces.specs.Turns.{Turned}
+use Rattle.pieces.proofs.Ends.{end-fields}
 use Rattle.service.specs.declared.Service.{Service}
-use Rattle.service.specs.Filled.{Filled}
+use Rattle.transfers.specs.Filled.{Filled}
 use Rattle.answers.specs.Answers.{answerRoom}
 
 not-not : (a : Bool) → not (not a) ≡ a
 not-not true = refl
 not-not false = refl
-
--- the test on the part that is held
-pub not-ready : (w : List ℕ) (n : ℕ) {t : Bool} → t ≡ readyOf (take (n - 0) (drop 0 w)) → t ≡ false → readyOf (take n w) ≡ false
-not-ready w n e f = let z : n - 0 ≡ n = omega arith in (rw z at (sym e)) ∙ f
 
 -- the bytes at hand after a read: those held, and those read after them
 at-hand : {held count : ℕ} {more : Bool} {i i₁ : List ℕ} → Filled held count more i i₁ → take count i₁ ≡ take held i ++ slice held count i₁

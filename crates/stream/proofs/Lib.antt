@@ -1,6 +1,3 @@
 pub mod Fields
 pub mod Going
 pub mod Moves
-pub mod Ends
-pub mod Pieces
-pub mod Runs

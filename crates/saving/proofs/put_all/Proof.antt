@@ -5,9 +5,9 @@ use native.Mathlib.Omega.{arith}
 use borrow.Author.Needs.{needs}
 use Rattle.sheet.specs.Sheet.{kindAt, effectAt, capacityAt}
 use Rattle.sheet.specs.Parts.{whole}
-use Rattle.saving.specs.Saved.{upTo, settingsField, caseBytes, capacityBytes, savedBy, savedBytes}
+use Rattle.saved_fields.specs.Saved.{upTo, settingsField, caseBytes, capacityBytes, savedBy, savedBytes}
 use Rattle.wire.proofs.Stores.{put-two, put-long}
-use Rattle.saving.proofs.Lengths.{places-most}
+use Rattle.saved_fields.proofs.Lengths.{places-most}
 use Rattle.saving.proofs.put_all.Statement.{statement}
 use Rattle.saving.proofs.put_all.Tie as tie
 

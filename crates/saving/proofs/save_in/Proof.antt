@@ -12,10 +12,11 @@ use lib.Seq.{length-take-le}
 use Rattle.wire.specs.Bytes.{Put}
 use Rattle.sheet.specs.declared.Sheet.{Sheet}
 use Rattle.sheet.specs.Parts.{whole}
-use Rattle.saving.specs.Saved.{savedBytes, savedMost, savedAnswer, savedOver}
+use Rattle.saved_fields.specs.Saved.{savedBytes, savedMost}
+use Rattle.saving.specs.Saving.{savedAnswer, savedOver}
 use Rattle.wire.proofs.Stores.{front, put-long}
-use Rattle.saving.proofs.Appending.{front-taken}
-use Rattle.saving.proofs.Lengths.{saved-most}
+use Rattle.saved_fields.proofs.Appending.{front-taken}
+use Rattle.saved_fields.proofs.Lengths.{saved-most}
 use Rattle.saving.proofs.save_in.Statement.{statement}
 use Rattle.saving.proofs.save_in.Tie as tie
 

@@ -1,0 +1,44 @@
+-- `loading::load` meets its contract: a fresh sheet is in range, and one answer has room.
+-- Assumes nothing.
+use Prim.Native.Nat.{ℕ}
+use mathlib.Core.Bool.{false}
+use native.Mathlib.Omega.{arith}
+use lib.ListN.{replicate}
+use Rattle.sheet.proofs.Kept.{fresh-kept}
+use Rattle.sheet.proofs.Parts.{fresh-whole}
+use Rattle.loading.specs.Loop.{Room}
+use Rattle.loading.proofs.Loaded.{load-is}
+use borrow.Author.Needs.{needs}
+use Rattle.loading.proofs.load.Statement.{statement}
+use Rattle.loading.proofs.load.Tie as tie
+use Rattle.answers.specs.Answers.{answerRoom}
+
+small : (n : ℕ) → Room false 0 n answerRoom
+unfolding Room
+small n = omega arith
+
+fresh-settings-requires : tie.Need-fresh-settings-requires
+fresh-settings-requires c κs = search needs
+
+fresh-requires : tie.Need-fresh-requires
+fresh-requires c κs = search needs
+
+slice-aggregate-read-all : tie.Need-slice-aggregate-read-all
+slice-aggregate-read-all c = search needs
+
+read-all-requires : tie.Need-read-all-requires
+read-all-requires c κs =
+    let f = c .before .before in
+    let e = fresh-whole _ (f .fresh .ensures) (f .before .fresh-settings .ensures) (f .before .before .before .pre) in
+    (rw e fresh-kept, small _)
+
+returns : tie.Need-returns
+returns c =
+    let r = c .before in
+    let f = r .before .before .before in
+    let a = f .before .before .before in
+    let e = fresh-whole _ (f .fresh .ensures) (f .before .fresh-settings .ensures) (a .pre) in
+    load-is (a .args .state .now) (r .read-all .result) _ (replicate answerRoom 0) (rw e at (r .read-all .ensures))
+
+pub load-spec : {M : Type 1} → statement M
+load-spec = tie.close (tie.spec fresh-settings-requires fresh-requires slice-aggregate-read-all read-all-requires returns)

@@ -1,0 +1,3 @@
+pub mod Ends
+pub mod Pieces
+pub mod Runs

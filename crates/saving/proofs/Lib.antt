@@ -1,5 +1,0 @@
-pub mod Lengths
-pub mod Appending
-pub mod Framing
-pub mod Stages
-pub mod RoundTrip
