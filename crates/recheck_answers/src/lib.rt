@@ -5,6 +5,7 @@ ghost use Prim.Native.Nat.{_<_};
 use recheck_bytes::byte_at;
 use recheck_bytes::index_at;
 use recheck_bytes::number_at;
+use recheck_bytes::same_at;
 use recheck_combinations::Look;
 use recheck_combinations::times;
 use recheck_enumeration::Named;
@@ -70,7 +71,7 @@ fn extremes_right(w: WorkingSheet, field: &[u8], answer: &[u8]) -> bool {
     if answer.len() != 37 {
         return false;
     }
-    if number_at(answer, 0, 3) != 0x860022 {
+    if !same_at(answer, 0, b"\x86\x00\x22") {
         return false;
     }
     let effects = effects_at(&w.effects, index_at(field, 3));
@@ -106,7 +107,7 @@ fn utilisation_right(w: WorkingSheet, field: &[u8], answer: &[u8]) -> bool {
     if answer.len() != 29 {
         return false;
     }
-    if number_at(answer, 0, 3) != 0x87001A {
+    if !same_at(answer, 0, b"\x87\x00\x1a") {
         return false;
     }
     let station = index_at(field, 3);
@@ -151,7 +152,7 @@ fn is_refusal(answer: &[u8], n: u8) -> bool {
     if answer.len() != 4 {
         return false;
     }
-    if number_at(answer, 0, 3) != 0x810001 {
+    if !same_at(answer, 0, b"\x81\x00\x01") {
         return false;
     }
     byte_at(answer, 3) == n
@@ -162,7 +163,7 @@ fn is_accepted(answer: &[u8]) -> bool {
     if answer.len() != 3 {
         return false;
     }
-    number_at(answer, 0, 3) == 0x800000
+    same_at(answer, 0, b"\x80\x00\x00")
 }
 
 fn reading_checked(w: WorkingSheet, ok: bool, looked: bool, refused: bool) -> Checked {

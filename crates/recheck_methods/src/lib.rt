@@ -112,14 +112,14 @@ fn extreme_is(e: Extreme, answer: &[u8], at: usize) -> bool
 }
 
 fn extremes_are(e: envelope::Extremes, answer: &[u8]) -> bool {
-    let header = (answer.len() == 37) & (number_at(answer, 0, 3) == 0x860022);
+    let header = (answer.len() == 37) & same_at(answer, 0, b"\x86\x00\x22");
     let maximum = e.maximum;
     let minimum = e.minimum;
     header & extreme_is(maximum, answer, 3) & extreme_is(minimum, answer, 20)
 }
 
 fn utilisation_is(u: envelope::Utilised, answer: &[u8]) -> bool {
-    let header = (answer.len() == 29) & (number_at(answer, 0, 3) == 0x87001A);
+    let header = (answer.len() == 29) & same_at(answer, 0, b"\x87\x00\x1a");
     let share = (u.numerator == number_at(answer, 3, 8))
         & (u.denominator == number_at(answer, 11, 8));
     let verdict = u.pass == (byte_at(answer, 19) == 1);
@@ -130,11 +130,11 @@ fn utilisation_is(u: envelope::Utilised, answer: &[u8]) -> bool {
 }
 
 fn refusal_is(n: u8, answer: &[u8]) -> bool {
-    (answer.len() == 4) & (number_at(answer, 0, 3) == 0x810001) & (byte_at(answer, 3) == n)
+    (answer.len() == 4) & same_at(answer, 0, b"\x81\x00\x01") & (byte_at(answer, 3) == n)
 }
 
 fn accepted_is(answer: &[u8]) -> bool {
-    (answer.len() == 3) & (number_at(answer, 0, 3) == 0x800000)
+    (answer.len() == 3) & same_at(answer, 0, b"\x80\x00\x00")
 }
 
 fn answer_is(a: Answer, answer: &[u8]) -> bool {
