@@ -35,7 +35,7 @@ fn turn(s: Service, effects: &mut Effects, input: &mut [u8], output: &mut [u8]) 
     let consumed = p.consumed;
     let written = p.written;
     let w = transfers::write_all(&output[0..written]);
-    stream::shift(input, consumed, end);
+    transfers::shift(input, consumed, end);
     let next = p.rest;
     Service {
         rest: next,

@@ -1,4 +1,4 @@
-// An input that comes in pieces: the fields at hand are answered, and the bytes that they leave go to the front.
+// An input that comes in pieces: the fields at hand are answered.
 use answers::ANSWER_ROOM;
 use effects::Effects;
 use sheet::Rest;
@@ -7,8 +7,6 @@ ghost use mathlib.Core.List.{[], _∷_};
 ghost use mathlib.Core.Bool.{not};
 ghost use Prim.Native.Nat.{_+_, _-_, _≤_};
 ghost use lib.ListN.{length, drop};
-ghost use lib.Seq.{slice};
-ghost use Rattle.wire.specs.Bytes.{over};
 ghost use Rattle.sheet.specs.Range.{InRange};
 ghost use Rattle.sheet.specs.Parts.{whole};
 ghost use Rattle.fields.specs.Field.{readField};
@@ -98,20 +96,4 @@ pub fn answer_all(
         p = step(p, effects, ended, input, output);
     }
     p
-}
-
-// Moves the bytes between two places down to the start.
-pub fn shift(buffer: &mut [u8], from: usize, to: usize)
-    requires { ⌜ (from ≤ to) × (to ≤ length (now buffer)) ⌝ }
-    ensures { λ _. ⌜ now (buffer .exit) ≡ over (slice from to (now (buffer .entry))) (now (buffer .entry)) ⌝ }
-{
-    if from == 0 {
-        return;
-    }
-    let n = to - from;
-    let mut i = 0;
-    while i < n {
-        buffer[i] = buffer[from + i];
-        i += 1;
-    }
 }

@@ -1,8 +1,10 @@
-// Reads from descriptor 0 and writes to descriptor 1.
+// Reads from descriptor 0, writes to descriptor 1, and moves bytes within the input.
 ghost use mathlib.Core.Path.{_≡_};
 ghost use mathlib.Core.Bool.{cond};
 ghost use Prim.Native.Nat.{_-_, _≤_, _<_};
 ghost use lib.ListN.{length};
+ghost use lib.Seq.{slice};
+ghost use Rattle.wire.specs.Bytes.{over};
 ghost use Rattle.transfers.specs.Filled.{Filled};
 
 // The turns left after one: a loop ends where it is not to go on.
@@ -90,5 +92,21 @@ pub fn read_some(input: &mut [u8], held: usize) -> Moved
     Moved {
         count: held + n,
         more: 0 < n,
+    }
+}
+
+// Moves the bytes between two places down to the start.
+pub fn shift(buffer: &mut [u8], from: usize, to: usize)
+    requires { ⌜ (from ≤ to) × (to ≤ length (now buffer)) ⌝ }
+    ensures { λ _. ⌜ now (buffer .exit) ≡ over (slice from to (now (buffer .entry))) (now (buffer .entry)) ⌝ }
+{
+    if from == 0 {
+        return;
+    }
+    let n = to - from;
+    let mut i = 0;
+    while i < n {
+        buffer[i] = buffer[from + i];
+        i += 1;
     }
 }

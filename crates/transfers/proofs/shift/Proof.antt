@@ -1,10 +1,10 @@
--- `stream::shift` meets its contract: the bytes from a place to another stand at the start, and the later ones are as they were.
+-- `transfers::shift` meets its contract: the bytes from a place to another stand at the start, and the later ones are as they were.
 -- Assumes nothing.
 use Prim.Native.Nat.{_-_}
-use Rattle.stream.proofs.Moves.{Moving, moving-start, moving-next, moved-all, unmoved}
+use Rattle.transfers.proofs.Moves.{Moving, moving-start, moving-next, moved-all, unmoved}
 use borrow.Author.Needs.{needs}
-use Rattle.stream.proofs.shift.Statement.{statement}
-use Rattle.stream.proofs.shift.Tie as tie
+use Rattle.transfers.proofs.shift.Statement.{statement}
+use Rattle.transfers.proofs.shift.Tie as tie
 
 abbrev Inv-loop : tie.InvT-loop
 Inv-loop buffer₀ from to n i₀ buffer i = Moving buffer₀ from to i buffer
