@@ -62,9 +62,9 @@ fn count(list: &Counted) -> Option<String> {
         &format!("{proved:.0}"),
         &format!("{by_hand:.0}"),
         &format!("{:.2}", proved / by_hand),
-        &list.bound.map_or("none".to_string(), |b| b.to_string()),
+        &list.bound.to_string(),
     ]);
-    let bound = list.bound?;
+    let bound = list.bound;
     (proved > 1.1 * f64::from(bound)).then(|| {
         format!("{name}: the library takes {proved:.0} instructions a field, its bound is {bound}.")
     })
