@@ -46,12 +46,7 @@ pub fn put_effects(effects: &mut Effects, at: usize, n: i16, y: i16, z: i16)
 
 // Sets all effects to 0.
 pub fn clear_all(effects: &mut Effects)
-    requires { ⌜ length (now effects) ≡ effectCount ⌝ }
     ensures { λ _. ⌜ now (effects .exit) ≡ zeros effectCount ⌝ }
 {
-    let mut i: usize = 0;
-    while i < EFFECTS {
-        effects[i] = 0;
-        i += 1;
-    }
+    *effects = [0; EFFECTS];
 }

@@ -96,7 +96,6 @@ impl Sheet {
 
     // Tag 01.
     pub fn restart(self, method: u8, live: u8, zone: u8) -> Answered
-        requires { ⌜ InRange self ⌝ }
         ensures { λ r. ⌜ r ≡ edited (unlessRefused (dueSettings method live zone) self (fresh (settingsOf method live zone))) ⌝ }
     {
         let mut effects = self.effects;
@@ -242,7 +241,6 @@ impl Rest {
 
     // Tag 01.
     pub fn restart(self, effects: &mut Effects, method: u8, live: u8, zone: u8) -> AnsweredRest
-        requires { ⌜ InRange (whole self (now effects)) ⌝ }
         ensures { λ r. ⌜ wholeOf r (now (effects .exit)) ≡ edited (unlessRefused (dueSettings method live zone) (whole self (now (effects .entry))) (fresh (settingsOf method live zone))) ⌝ }
     {
         let due = refusals::due_settings(method, live, zone);

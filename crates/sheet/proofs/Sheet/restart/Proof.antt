@@ -9,7 +9,7 @@ rest-requires : tie.Need-rest-requires
 rest-requires c κs = search needs
 
 restart-requires : tie.Need-restart-requires
-restart-requires c κs = rw (c .before .rest .ensures) (c .before .before .before .pre)
+restart-requires c κs = search needs
 
 with-effects-requires : tie.Need-with-effects-requires
 with-effects-requires c κs = search needs
