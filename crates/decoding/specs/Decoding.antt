@@ -1,4 +1,4 @@
--- 01, 'Answer fields', read the other way: the answer that some bytes are.
+-- SCOPE 6.1, read the other way: the answer that some bytes are.
 use Prim.Native.Nat.{ℕ, _+_, _*_, _-_, _^_, _<_}
 use mathlib.Core.List.{List}
 use mathlib.Core.Bool.{cond}
@@ -11,14 +11,14 @@ use Rattle.envelope.specs.declared.Utilised.{Utilised}
 use Rattle.sheet.specs.declared.Answer.{Answer}
 use Rattle.sheet.specs.declared.Answer.the-variants as answer
 
--- the numbers of four and of eight bytes from a position on, the high byte first
+-- the numbers of four and of eight bytes from a position on, the high byte first (SCOPE 5.1)
 abbrev pub number4 : List ℕ → ℕ → ℕ
 number4 b at = wordAt b at * 2 ^ 16 + wordAt b (at + 2)
 
 abbrev pub number8 : List ℕ → ℕ → ℕ
 number8 b at = number4 b at * 2 ^ 32 + number4 b (at + 4)
 
--- two's complement of 64 bits
+-- two's complement of 64 bits (SCOPE 5.1)
 abbrev pub signed64 : ℕ → ℤ
 signed64 n = cond (ltb n (2 ^ 63)) (pos n) (negℤ (pos (2 ^ 64 - n)))
 
@@ -37,7 +37,7 @@ utilisedFrom b at = record {
   low = number4 b (at + 22);
 }
 
--- by the tag, after which come two bytes of length; no bytes are the refusal 14
+-- by the tag, after which come two bytes of length; no bytes are the refusal 14 (SCOPE 6.1, 7.3)
 unfoldable pub decoded : List ℕ → Answer
 decoded b =
     cond (eqb (length b) 0) (answer.Refused 14)

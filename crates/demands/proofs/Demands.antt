@@ -22,7 +22,8 @@ use Rattle.sheet.proofs.Promised.{extremes-govern-at, utilisation-governs-at}
 use Rattle.fields.specs.declared.Reading.{Reading}
 use Rattle.headers.specs.Headers.{lengthOf, dueHeader}
 use Rattle.fields.specs.Field.{readField}
-use Rattle.fields.specs.Order.{runOf, fieldOf, reading}
+use Rattle.tags.specs.Run.{runOf}
+use Rattle.fields.specs.Order.{fieldOf, reading}
 use Rattle.fields.proofs.Kept.{read-kept}
 use Rattle.fields.proofs.Refused.{refused-unchanged}
 use Rattle.fields.proofs.Within.{within}

@@ -20,7 +20,8 @@ use Rattle.headers.specs.Headers.{headerOf}
 use Rattle.answers.specs.Answers.{answerRoom, answerBytes}
 use Rattle.fields.specs.Field.{readField}
 use Rattle.fields.proofs.InOrder.{by-header}
-use Rattle.fields.specs.Tags.{Tag, tags, utilisationTag, tagAt, tagOf, bodyOf, isCut, unknownTag, lengthIn, due}
+use Rattle.tags.specs.Tags.{Tag, tags, utilisationTag, tagAt, unknownTag}
+use Rattle.fields.specs.Field.{tagOf, bodyOf, isCut, lengthIn, due}
 
 -- ---- the numbers of a list of refusals pass a test
 abbrev allNumbers : (ℕ → Bool) → List Refusal → Bool

@@ -1,4 +1,3 @@
 pub mod Due
 pub mod Readings
 pub mod Demands
-pub mod Worked

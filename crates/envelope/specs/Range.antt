@@ -1,4 +1,4 @@
--- The range of a station's inputs (01, 'A sheet and its seven fields').
+-- The range of a station's inputs (SCOPE 2.3 to 2.5).
 use Prim.Native.Nat.{ℕ, _+_, _*_, _<_, _≤_}
 use mathlib.Core.List.{List}
 use mathlib.Core.Path.{_≡_}
@@ -20,14 +20,14 @@ effectOf effects k j = getD effects (k * 3 + j) (pos 0)
 abbrev pub listed : List ℤ → ℕ → ℤ
 listed e k = getD e k (pos 0)
 
--- stations, and the components N, My, Mz
+-- stations (SCOPE 2.1), and the components N, My, Mz (SCOPE 2.4)
 abbrev pub stationCount : ℕ
 stationCount = 16
 
 abbrev pub componentCount : ℕ
 componentCount = 3
 
--- effects run from -10,000 to 10,000, capacities from 1 to 10,000
+-- effects run from -10,000 to 10,000 (SCOPE 2.4), capacities from 1 to 10,000 (SCOPE 2.5)
 abbrev pub effectLimit : ℕ
 effectLimit = 10000
 

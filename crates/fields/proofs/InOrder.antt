@@ -13,7 +13,6 @@ use Rattle.wire.specs.Bytes.{byteAt, wordAt}
 use Rattle.wire.proofs.Cases.{either}
 use Rattle.standard.proofs.Table.{tabulate, same-at}
 use Rattle.refusals.specs.Refusals.{on, firstDue}
-use Rattle.refusals.proofs.Fits.{inside}
 use Rattle.sheet.specs.declared.Sheet.{Sheet}
 use Rattle.sheet.specs.declared.Answer.{Answer}
 use Rattle.sheet.specs.Looks.{unlessDue}
@@ -23,9 +22,10 @@ use Rattle.headers.specs.Headers.{longestBody, headerOf, lengthOf, dueHeader}
 use Rattle.headers.proofs.Whole.{header-fits}
 use Rattle.answers.specs.Answers.{answerRoom, answerBytes}
 use Rattle.fields.specs.declared.Reading.{Reading}
-use Rattle.fields.specs.Tags.{unknownTag, tagAt, tagOf, lengthIn, bodyOf, isCut, due}
-use Rattle.fields.specs.Field.{readField}
-use Rattle.fields.specs.Order.{runOf, fieldOf, reading, refusedWith, readHeader, readInOrder}
+use Rattle.tags.specs.Tags.{unknownTag, tagAt}
+use Rattle.tags.specs.Run.{runOf}
+use Rattle.fields.specs.Field.{tagOf, lengthIn, bodyOf, isCut, due, readField}
+use Rattle.fields.specs.Order.{fieldOf, reading, refusedWith, readHeader, readInOrder}
 
 -- ---- the header's refusals
 sizes : tabulate lengthOf 1 7 ≡ tabulate (λ tag. tagAt tag .size) 1 7
@@ -52,10 +52,6 @@ no-test false v e = refl
 
 pub known-tag : (tag len : ℕ) → dueHeader tag len ≡ 0 → unknownTag tag ≡ false
 known-tag tag len e = no-test (unknownTag tag) (not (eqb len (tagAt tag .size))) (sym (header-is tag len) ∙ e)
-
--- the arm of the match that is left
-pub last-tag : (tag : ℕ) → unknownTag tag ≡ false → (tag ≡ 1 → ⊥) → (tag ≡ 2 → ⊥) → (tag ≡ 3 → ⊥) → (tag ≡ 4 → ⊥) → (tag ≡ 5 → ⊥) → (tag ≡ 6 → ⊥) → tag ≡ 7
-last-tag tag e n1 n2 n3 n4 n5 n6 = let k = inside tag 7 e in omega (arith, k .0, k .1)
 
 -- ---- the header
 header-cases : (a b c : Bool) (h : Header) →

@@ -19,12 +19,13 @@ use Rattle.headers.specs.declared.Header.{Header}
 use Rattle.headers.specs.declared.Header.the-variants.{Field, Short}
 use Rattle.headers.specs.Headers.{headerOf, lengthOf, dueHeader, consumedBy, consumedOf, readyOf}
 use Rattle.fields.specs.Field.{readField}
-use Rattle.fields.specs.Order.{runOf, fieldOf, readHeader, readInOrder}
+use Rattle.tags.specs.Run.{runOf}
+use Rattle.fields.specs.Order.{fieldOf, readHeader, readInOrder}
 use Rattle.fields.proofs.InOrder.{read-is}
 use Rattle.answers.specs.Answers.{lastOf, answerRoom}
 use Rattle.wire.proofs.Cases.{both}
 use Rattle.fields.specs.declared.Reading.{Reading}
-use Rattle.fields.proofs.Laws.{run-by}
+use Rattle.tags.proofs.Laws.{run-by}
 use Rattle.fields.proofs.Ready.{header-same}
 
 abbrev NotLast : Answer → Type 0

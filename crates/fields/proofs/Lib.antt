@@ -1,5 +1,4 @@
 pub mod InOrder
-pub mod Laws
 pub mod Named
 pub mod Kept
 pub mod Refused

@@ -24,10 +24,11 @@ use Rattle.sheet.specs.Edits.{unlessRefused}
 use Rattle.sheet.specs.Looks.{stationEffects, capacitiesAt, extremesAt, utilisationAt, dueUtilisation, lookedExtremes, lookedUtilisation, unlessDue, edited}
 use Rattle.refusals.specs.Refusals.{dueExtremes}
 use Rattle.headers.specs.Headers.{dueHeader}
-use Rattle.fields.specs.Order.{runOf, fieldOf}
+use Rattle.tags.specs.Run.{runOf}
+use Rattle.fields.specs.Order.{fieldOf}
 use Rattle.answers.specs.Rows.{RowsFit}
 use Rattle.wire.proofs.Cases.{both}
-use Rattle.fields.proofs.Laws.{run-by}
+use Rattle.tags.proofs.Laws.{run-by}
 
 governing-fits : (s : Settings) (kind : ℕ → ℕ) (e : ℕ → ℤ) → governingOf s kind e .row < 256
 unfolding governingOf

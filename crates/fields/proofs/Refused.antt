@@ -16,10 +16,11 @@ use Rattle.headers.specs.declared.Header.the-variants.{Field, Short}
 use Rattle.fields.specs.declared.Reading.{Reading}
 use Rattle.headers.specs.Headers.{headerOf, dueHeader}
 use Rattle.fields.specs.Field.{readField}
-use Rattle.fields.specs.Order.{runOf, fieldOf, readHeader, readInOrder}
+use Rattle.tags.specs.Run.{runOf}
+use Rattle.fields.specs.Order.{fieldOf, readHeader, readInOrder}
 use Rattle.fields.proofs.InOrder.{read-is}
 use Rattle.wire.proofs.Cases.{both}
-use Rattle.fields.proofs.Laws.{run-by}
+use Rattle.tags.proofs.Laws.{run-by}
 use Rattle.answers.specs.Answers.{answerRoom}
 
 -- unless it is accepted, the old sheet is handed back

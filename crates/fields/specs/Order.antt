@@ -4,28 +4,15 @@ use mathlib.Core.List.{List}
 use mathlib.Core.Bool.{cond}
 use lib.ListN.{length, take, drop}
 use lib.Dec.{ltb, eqb}
-use Rattle.refusals.specs.Refusals.{firstDue}
 use Rattle.sheet.specs.declared.Sheet.{Sheet}
 use Rattle.sheet.specs.declared.Answered.{Answered}
 use Rattle.sheet.specs.declared.Answer.the-variants as answer
-use Rattle.sheet.specs.Looks.{unlessDue}
 use Rattle.headers.specs.declared.Header.{Header}
 use Rattle.headers.specs.declared.Header.the-variants.{Field, Short}
 use Rattle.headers.specs.Headers.{headerOf, dueHeader, consumedOf}
 use Rattle.answers.specs.Answers.{answerRoom, answerBytes}
 use Rattle.fields.specs.declared.Reading.{Reading}
-use Rattle.fields.specs.Tags.{Tag, tagAt}
-
--- a field of known tag and right length
-abbrev pub ranBy : Tag → Sheet → List ℕ → Answered
-ranBy t s b =
-    record {
-      answer = unlessDue (firstDue (t .refusals s b)) (t .answer s b);
-      sheet = cond (eqb (firstDue (t .refusals s b)) 0) (t .after s b) s;
-    }
-
-unfoldable pub runOf : Sheet → ℕ → List ℕ → Answered
-runOf s tag b = ranBy (tagAt tag) s b
+use Rattle.tags.specs.Run.{runOf}
 
 -- the first of the refusals 1, 2 and those of the body
 unfoldable pub fieldOf : Sheet → ℕ → List ℕ → Answered

@@ -1,4 +1,4 @@
--- What one reading ensures, and bytes that are read through field by field.
+-- What one reading ensures (SCOPE 5.3), and bytes that are read through field by field (SCOPE 10.2).
 use Prim.Native.Nat.{ℕ, _≤_}
 use mathlib.Core.Path.{_≡_}
 use mathlib.Core.List.{List, [], _∷_}
@@ -14,7 +14,7 @@ use Rattle.fields.specs.declared.ReadRest.{ReadRest}
 use Rattle.fields.specs.Field.{readField}
 use Rattle.answers.specs.Answers.{answerBytes, answerRoom}
 
--- the input, the output before, the sheet given, the result and the output after, whose later bytes are as they were
+-- the input, the output before, the sheet given, the result and the output after, whose later bytes are as they were (SCOPE 5.3)
 pub record FieldRead (input out : List ℕ) (s : Sheet) (r : Reading) (out′ : List ℕ) : Type 0 where
   pub reading : r ≡ readField input (length out) s
   pub output : out′ ≡ over (answerBytes (r .answer)) out
@@ -23,7 +23,7 @@ pub record FieldRead (input out : List ℕ) (s : Sheet) (r : Reading) (out′ : 
 abbrev pub wholeReading : ReadRest → List ℤ → Reading
 wholeReading r effects = record { answer = r .answer; sheet = whole (r .rest) effects; consumed = r .consumed; written = r .written }
 
--- every field of the bytes is accepted, from a sheet to a sheet
+-- every field of the bytes is accepted, from a sheet to a sheet (SCOPE 10.2)
 pub data ReadThrough : List ℕ → Sheet → Sheet → Type 0 where
   end : {s : Sheet} → ReadThrough [] s s
   field : {b : ℕ} {bs : List ℕ} {s s′ : Sheet} → readField (b ∷ bs) answerRoom s .answer ≡ Accepted →

@@ -9,9 +9,7 @@ use sheet::Sheet;
 ghost use mathlib.Core.Path.{_≡_};
 ghost use Rattle.fields.specs.Readings.{FieldRead, ReadWithin, wholeReading};
 ghost use Rattle.sheet.specs.Parts.{whole, wholeOf};
-ghost use mathlib.Core.Bool.{false};
-ghost use Rattle.fields.specs.Tags.{unknownTag};
-ghost use Rattle.fields.specs.Order.{runOf, fieldOf};
+ghost use Rattle.fields.specs.Order.{fieldOf};
 ghost use Rattle.sheet.specs.Range.{InRange};
 
 pub struct Reading {
@@ -45,49 +43,14 @@ pub fn read_field(sheet: Sheet, input: &[u8], out: &mut [u8]) -> Reading
     }
 }
 
-// A field of known tag and right length, on a sheet whose effects are lent.
-fn run_in(rest: Rest, effects: &mut Effects, tag: u8, body: &[u8]) -> AnsweredRest
-    requires { ⌜ InRange (whole rest (now effects)) × (unknownTag tag ≡ false) ⌝ }
-    ensures { λ r. ⌜ wholeOf r (now (effects .exit)) ≡ runOf (whole rest (now (effects .entry))) tag (now (body .entry)) ⌝ }
-{
-    let b0 = wire::byte(body, 0);
-    let b1 = wire::byte(body, 1);
-    match tag {
-        1 => rest.restart(effects, b0, b1, wire::byte(body, 2)),
-        2 => rest.fill(effects, b0, b1),
-        3 => rest.replace_effects(
-            effects,
-            b0,
-            b1,
-            wire::word(body, 2),
-            wire::word(body, 4),
-            wire::word(body, 6),
-        ),
-        4 => rest.empty(effects, b0),
-        5 => rest.replace_capacities(
-            b0,
-            wire::word(body, 1),
-            wire::word(body, 3),
-            wire::word(body, 5),
-        ),
-        6 => {
-            let answer = rest.look_extremes(effects, b0, b1);
-            AnsweredRest { answer, rest }
-        }
-        _ => {
-            let answer = rest.look_utilisation(effects, b0);
-            AnsweredRest { answer, rest }
-        }
-    }
-}
-
+// Refusals 1 and 2, and then the field's own.
 fn field_in(rest: Rest, effects: &mut Effects, tag: u8, body: &[u8]) -> AnsweredRest
     requires { ⌜ InRange (whole rest (now effects)) ⌝ }
     ensures { λ r. ⌜ wholeOf r (now (effects .exit)) ≡ fieldOf (whole rest (now (effects .entry))) tag (now (body .entry)) ⌝ }
 {
     let due = headers::due_header(tag, body.len());
     if due == 0 {
-        return run_in(rest, effects, tag, body);
+        return tags::run(rest, effects, tag, body);
     }
     AnsweredRest {
         answer: Answer::Refused(due),

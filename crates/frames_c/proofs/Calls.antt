@@ -1,18 +1,16 @@
 -- What the exported calls come to: the fields answered, and the refusals.
 -- Assumes nothing.
-use Prim.Native.Nat.{ℕ, _*_, _/_, _≤_}
-use mathlib.Core.Path.{_≡_, refl, sym, _∙_, ap}
+use Prim.Native.Nat.{ℕ, _*_, _≤_}
+use mathlib.Core.Path.{_≡_, refl, _∙_, ap}
 use mathlib.Core.List.{List}
 use mathlib.Core.Bool.{Bool, true, false, cond}
-use mathlib.Core.Logic.{⊎-elim}
 use native.Mathlib.Nat.{zero-add}
 use native.Mathlib.Omega.{arith}
-use borrow.Author.Tests.{le-ltb, lt-ltb, ltb-false, ne-eqb}
+use borrow.Author.Tests.{le-ltb, ltb-false, ne-eqb}
 use lib.ListN.{length}
 use lib.Dec.{ltb}
 use lib.IntN.{ℤ}
 use Rattle.wire.specs.Bytes.{over}
-use Rattle.wire.proofs.Cases.{lt-or-ge}
 use Rattle.wire.proofs.Stores.{front}
 use Rattle.sheet.specs.declared.Sheet.{Sheet}
 use Rattle.sheet.specs.Parts.{whole}
@@ -21,10 +19,10 @@ use Rattle.saving.specs.Saving.{savedAnswer, savedOver}
 use Rattle.saving.specs.declared.Saved.{Saved}
 use Rattle.saved_fields.proofs.Lengths.{saved-most}
 use Rattle.loading.specs.declared.Progress.{Progress}
-use Rattle.lists.specs.Lists.{fieldsOf, sheetAfter, answersTo, bytesOf}
+use Rattle.lists.specs.Lists.{fieldsOf, short, sheetAfter, answersTo, bytesOf}
 use Rattle.lists.proofs.Joins.{answers-long}
 use Rattle.loading.specs.Loaded.{loaded, dueState}
-use Rattle.frames_c.specs.Calls.{short, dueAnswer, dueRun, AnswerDone, RunDone, countOf}
+use Rattle.frames_c.specs.Calls.{dueAnswer, dueRun, AnswerDone, RunDone, countOf}
 use Rattle.loading.specs.Loop.{State, starting, steppedAll, stateOf, Room}
 use Rattle.loading.proofs.Loop.{sheet-after, written-after, output-after}
 use Rattle.answers.specs.Answers.{answerRoom}
@@ -50,12 +48,6 @@ ended input s o q effects h e =
 none-due : (t : Bool) (n : ℕ) → cond t 14 n ≡ 0 → (t ≡ false) × (n ≡ 0)
 none-due true n e = absurd (omega arith)
 none-due false n e = (refl, e)
-
--- the test by a quotient is the test by a product
-pub short-is : (room n : ℕ) → ltb (room / answerRoom) n ≡ ltb room (answerRoom * n)
-short-is room n =
-    ⊎-elim (λ l. lt-ltb (room / answerRoom) n (omega arith) ∙ sym (lt-ltb room (answerRoom * n) l))
-    (λ g. le-ltb (room / answerRoom) n (omega arith) ∙ sym (le-ltb room (answerRoom * n) g)) (lt-or-ge room (answerRoom * n))
 
 pub roomy : (n room : ℕ) → answerRoom * n ≤ room → Room true 0 n room
 unfolding Room

@@ -1,31 +1,27 @@
 -- Lists of fields on a sheet that is given as its saved bytes: what each exported call answers, writes and saves.
-use Prim.Native.Nat.{ℕ, _*_}
+use Prim.Native.Nat.{ℕ}
 use mathlib.Core.List.{List}
 use mathlib.Core.Path.{_≡_}
-use mathlib.Core.Bool.{Bool, cond}
+use mathlib.Core.Bool.{cond}
 use lib.ListN.{length}
 use lib.Dec.{ltb, eqb}
 use Rattle.wire.specs.Bytes.{over}
-use Rattle.lists.specs.Lists.{fieldsOf, sheetAfter, answersTo, bytesOf}
+use Rattle.lists.specs.Lists.{fieldsOf, short, sheetAfter, answersTo, bytesOf}
 use Rattle.saved_fields.specs.Saved.{savedBytes, savedMost}
 use Rattle.saving.specs.declared.Saved.{Saved}
 use Rattle.saving.specs.declared.Saved.the-variants.{Written, Refused}
 use Rattle.loading.specs.Loaded.{loaded, dueState}
 use Rattle.frames_c.specs.declared.Ran.{Ran}
-use Rattle.answers.specs.Answers.{answerRoom}
 
--- 01, 'Answer fields': 14 comes first, for an output of under 37 bytes for each field
-abbrev pub short : List ℕ → ℕ → Bool
-short input room = ltb room (answerRoom * length (fieldsOf input))
-
+-- 14 comes first, for an output of under 37 bytes for each field (SCOPE 7.1, 7.2)
 abbrev pub dueAnswer : List ℕ → List ℕ → ℕ → ℕ
 dueAnswer state input room = cond (short input room) 14 (dueState state)
 
--- and for a place to save of under 5,958 bytes, the greatest saved size
+-- and for a place to save of under 5,958 bytes, the greatest saved size (SCOPE 8.3)
 abbrev pub dueRun : List ℕ → List ℕ → ℕ → ℕ → ℕ
 dueRun state input room place = cond (ltb place savedMost) 14 (dueAnswer state input room)
 
--- the answers to a list, and the saved sheet after it
+-- the answers to a list, and the saved sheet after it (SCOPE 8.1, 9.1)
 abbrev pub answered : List ℕ → List ℕ → List ℕ
 answered state input = bytesOf (answersTo (fieldsOf input) (loaded state))
 
@@ -51,7 +47,7 @@ pub record RunDone (state input output place : List ℕ) (r : Ran) (output′ pl
   pub written : output′ ≡ overUnless (dueRun state input (length output) (length place)) (answered state input) output
   pub saved : place′ ≡ overUnless (dueRun state input (length output) (length place)) (savedAfter state input) place
 
--- how many bytes were saved
+-- how many bytes were saved (SCOPE 8.2)
 abbrev pub countOf : Saved → ℕ
 countOf (Written n) = n
 countOf (Refused n) = 0

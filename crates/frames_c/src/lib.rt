@@ -1,11 +1,10 @@
 // For programs in C and Rust: lists of fields, answered on a sheet that is given as its saved bytes. No call keeps a state.
-use answers::ANSWER_ROOM;
 use effects::EFFECTS;
 use saving::Saved;
 ghost use mathlib.Core.Path.{_≡_};
 ghost use lib.ListN.{length};
 ghost use Rattle.lists.specs.Lists.{fieldsOf};
-ghost use Rattle.frames_c.specs.Calls.{short, AnswerDone, RunDone, countOf};
+ghost use Rattle.frames_c.specs.Calls.{AnswerDone, RunDone, countOf};
 
 // The refusal's number, or 0, and how many bytes were written and saved.
 #[repr(C)]
@@ -20,21 +19,7 @@ pub struct Ran {
 pub extern "C" fn frames_count(input: &[u8]) -> usize
     ensures { λ r. ⌜ r ≡ length (fieldsOf (now (input .entry))) ⌝ }
 {
-    let mut n: usize = 0;
-    let mut at: usize = 0;
-    while at < input.len() {
-        at = at + headers::consumed_by(&input[at..]);
-        n += 1;
-    }
-    n
-}
-
-// Whether the output has under 37 bytes for each field.
-fn is_short(input: &[u8], room: usize) -> bool
-    ensures { λ r. ⌜ r ≡ short (now (input .entry)) room ⌝ }
-{
-    let n = frames_count(input);
-    room / ANSWER_ROOM < n
+    lists::count(input)
 }
 
 fn saved_count(s: Saved) -> usize
@@ -53,7 +38,7 @@ pub extern "C" fn frames_answer(state: &[u8], input: &[u8], output: &mut [u8]) -
 {
     let mut effects = [0i16; EFFECTS];
     let p = loading::load(&mut effects, state);
-    let short = is_short(input, output.len());
+    let short = lists::is_short(input, output.len());
     let due = refusals::first(short, 14, p.refusal);
     if due == 0 {
         let rest = p.rest;
@@ -78,7 +63,7 @@ pub extern "C" fn frames_run(state: &[u8], input: &[u8], output: &mut [u8], save
 {
     let mut effects = [0i16; EFFECTS];
     let p = loading::load(&mut effects, state);
-    let short = is_short(input, output.len());
+    let short = lists::is_short(input, output.len());
     let due = refusals::first(short, 14, p.refusal);
     let due = refusals::first(saved.len() < saving::SAVED_MOST, 14, due);
     if due == 0 {

@@ -12,9 +12,9 @@ use Rattle.standard.specs.Kinds.{kindCount}
 use Rattle.standard.specs.Combination.{caseCount}
 use Rattle.envelope.specs.Range.{effectMost}
 use Rattle.envelope.specs.Places.{Places}
-use Rattle.sums.specs.declared.Directions.{Directions}
+use Rattle.directions.specs.declared.Directions.{Directions}
 use Rattle.sums.specs.Sums.{SumsOf, Summed}
-use Rattle.sums.specs.Four.{directed, FourOf}
+use Rattle.directions.specs.Four.{directed, FourOf}
 use Rattle.sums.proofs.Gathered.{summed, sums-in-range}
 use Rattle.terms.proofs.Exchange.{value-is, negated-value-is, terms-in-range}
 use Rattle.envelope.specs.declared.Best.{Best}

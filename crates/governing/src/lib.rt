@@ -8,7 +8,7 @@ ghost use Rattle.terms.specs.Value.{termsOf, TermsInRange, valueOf};
 ghost use Rattle.governing.specs.Ways.{towardOf, Ready, eightOf};
 use envelope::Best;
 use envelope::Peak;
-use standard::RowTable;
+use rows::RowTable;
 use standard::Settings;
 use terms::Terms;
 
@@ -115,7 +115,7 @@ fn governing(s: Settings, t: Terms) -> Best
     requires { ⌜ TermsInRange t ⌝ }
     ensures { λ r. ⌜ r ≡ bestOf s (λ row. valueOf s row t) ⌝ }
 {
-    let table = standard::row_table();
+    let table = rows::row_table();
     if s.method == 1 {
         let b = strength(&table, s, t);
         return strength_flooded(b, &table, s, t);

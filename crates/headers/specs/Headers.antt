@@ -1,4 +1,4 @@
--- 01, 'A sheet and its seven fields' and 'Answer fields': a field's header, the refusals 3, 1 and 2, and how much a reading consumes.
+-- SCOPE 5.1 and 7: a field's header, the refusals 3, 1 and 2, and how much a reading consumes.
 use Prim.Native.Nat.{ℕ, _+_, _-_}
 use mathlib.Core.List.{List, [], _∷_}
 use mathlib.Core.Bool.{Bool, true, false, cond}
@@ -8,26 +8,27 @@ use Rattle.wire.specs.Bytes.{byteAt, wordAt}
 use Rattle.headers.specs.declared.Header.{Header}
 use Rattle.headers.specs.declared.Header.the-variants.{Field, Short}
 
+-- the greatest length of a body (SCOPE 7.1)
 abbrev pub longestBody : ℕ
 longestBody = 60000
 
 -- one tag byte, a two-byte length and a body that is there; 3 is due where header or body goes past the end, or the length is
--- above 60,000
+-- above 60,000 (SCOPE 5.1, 7.1)
 unfoldable pub headerOf : List ℕ → Header
 headerOf s =
     cond (ltb (length s) 3) Short
     (cond (ltb longestBody (wordAt s 1)) Short
     (cond (ltb (length s - 3) (wordAt s 1)) Short (Field (byteAt s 0) (wordAt s 1))))
 
--- the length of a body by its tag, from tag 00, which is none
+-- the length of a body by its tag, from tag 00, which is none (SCOPE 5.2)
 unfoldable pub lengthOf : ℕ → ℕ
 lengthOf tag = getD (0 ∷ 3 ∷ 2 ∷ 8 ∷ 1 ∷ 7 ∷ 2 ∷ 1 ∷ []) tag 0
 
--- 1 for an unknown tag, then 2 for a length that is not the tag's
+-- 1 for an unknown tag, then 2 for a length that is not the tag's (SCOPE 7.2)
 unfoldable pub dueHeader : ℕ → ℕ → ℕ
 dueHeader tag len = cond (eqb tag 0) 1 (cond (ltb 7 tag) 1 (cond (eqb len (lengthOf tag)) 0 2))
 
--- 3 consumes all that is left, others the field
+-- 3 consumes all that is left, others the field (SCOPE 5.3, 7.3)
 abbrev pub consumedOf : Header → List ℕ → ℕ
 consumedOf Short input = length input
 consumedOf (Field tag len) input = 3 + len

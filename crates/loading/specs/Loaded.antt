@@ -9,7 +9,7 @@ use Rattle.sheet.specs.declared.Answer.the-variants as answer
 use Rattle.sheet.specs.Sheet.{freshSheet}
 use Rattle.lists.specs.Lists.{fieldsOf, sheetAfter, answersTo}
 
--- 01, 'Saving': a saved sheet has fields that are accepted, and tags 06 and 07 are none of its tags
+-- a saved sheet has fields that are accepted, and tags 06 and 07 are none of its tags (SCOPE 8.1)
 abbrev pub refusalOf : Answer → ℕ
 refusalOf answer.Accepted = 0
 refusalOf (answer.Refused n) = n
@@ -21,7 +21,7 @@ unfoldable pub firstRefusal : List Answer → ℕ
 firstRefusal [] = 0
 firstRefusal (a ∷ rest) = cond (eqb (refusalOf a) 0) (firstRefusal rest) (refusalOf a)
 
--- the sheet that a state gives, and its refusal
+-- the sheet that a state gives, and its refusal (SCOPE 9.1)
 abbrev pub loaded : List ℕ → Sheet
 loaded state = sheetAfter (fieldsOf state) freshSheet
 

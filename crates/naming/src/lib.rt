@@ -160,7 +160,7 @@ fn chosen_in(row: usize, places: &[u64]) -> Chosen
     requires { ⌜ (row < rowCount) × PlacesInRange (now places) ⌝ }
     ensures { λ r. ⌜ r ≡ chosenOf row (now (places .entry)) ⌝ }
 {
-    let factored = standard::kinds_in(row);
+    let factored = rows::kinds_in(row);
     Chosen {
         always: gathered(places, factored, 1, 3),
         earth: gathered(places, factored, 3, 1),

@@ -14,7 +14,7 @@ use Rattle.sheet.specs.declared.Sheet.{Sheet}
 use Rattle.lists.specs.Lists.{fieldsOf, sheetAfter, answersTo, bytesOf}
 use Rattle.lists.proofs.Joins.{sheet-join, answers-join, bytes-join}
 use Rattle.stream.specs.Answering.{answeredOf, anyLast}
-use Rattle.pieces.specs.Turns.{Turned, Turns, none, turn, Due, Stopped, at-end, at-3, unwritten}
+use Rattle.pieces.specs.Turns.{Turned, Turns, none, turn, Due, Stopped, at-end, at-3, at-failure}
 use Rattle.stream.proofs.Fields.{and-parts}
 use Rattle.pieces.proofs.Pieces.{Alike, split-now}
 
@@ -58,8 +58,9 @@ module _ {room : ℕ} {s : Sheet} {held out : List ℕ} {taken : ℕ} {s′ : Sh
 
   going : more ≡ true → (x .ended ≡ false) × (last ≡ false)
   going m =
-      let y = and-parts (not (x .ended) && eqb taken (length out)) (not last) (sym (x .goes-on) ∙ m) in
-      (not-true (x .ended) (and-parts (not (x .ended)) (eqb taken (length out)) (y .0) .0), not-true last (y .1))
+      let y = and-parts ((not (x .ended) && not (x .failed)) && eqb taken (length out)) (not last) (sym (x .goes-on) ∙ m) in
+      let z = and-parts (not (x .ended) && not (x .failed)) (eqb taken (length out)) (y .0) in
+      (not-true (x .ended) (and-parts (not (x .ended)) (not (x .failed)) (z .0) .0), not-true last (y .1))
 
   -- after turns that went on
   module _ {s₀ : Sheet} (read : List ℕ) {out₀ : List ℕ} (h : (t : List ℕ) → Due s₀ (read ++ t) out₀ s (fieldsOf (held ++ t))) where
@@ -74,7 +75,7 @@ module _ {room : ℕ} {s : Sheet} {held out : List ℕ} {taken : ℕ} {s′ : Sh
 
     before-end : x .ended ≡ false → Stopped s₀ (read ++ x .new) (out₀ ++ out) s′
     before-end e =
-        ⊎-elim {A = last ≡ true} {B = last ≡ false} (λ l. at-3 (after-due true l e)) (λ l. unwritten held′ (after-due false l e)) (either last)
+        ⊎-elim {A = last ≡ true} {B = last ≡ false} (λ l. at-3 (after-due true l e)) (λ l. at-failure held′ (after-due false l e)) (either last)
 
     stopped : Stopped s₀ (read ++ x .new) (out₀ ++ out) s′
     stopped = ⊎-elim (λ e. at-end (after-end e)) before-end (either (x .ended))

@@ -3,7 +3,7 @@
 use Prim.Native.Nat.{ℕ, zero, suc, _≤_}
 use mathlib.Core.Path.{_≡_}
 use mathlib.Core.List.{List, [], _++_}
-use mathlib.Core.Bool.{Bool, true, not, _&&_}
+use mathlib.Core.Bool.{Bool, true, false, not, _&&_}
 use lib.ListN.{length, drop}
 use lib.Dec.{eqb}
 use Rattle.sheet.specs.declared.Sheet.{Sheet}
@@ -13,9 +13,10 @@ use Rattle.stream.specs.Answering.{answeredOf, anyLast}
 -- one turn, with so much room for answers, from a sheet and the bytes held: the bytes handed to the writing call and how many of them it
 -- took, the sheet and the bytes held afterwards, and whether the service goes on
 pub record Turned (room : ℕ) (s : Sheet) (held out : List ℕ) (taken : ℕ) (s′ : Sheet) (held′ : List ℕ) (more : Bool) : Type 0 where
-  -- the bytes read, and whether no more follow
+  -- the bytes read, whether the input is at its end, and whether the read failed
   pub new : List ℕ
   pub ended : Bool
+  pub failed : Bool
   pub fields : List (List ℕ)
   pub which : fields ≡ answeredOf ended room (fieldsOf (held ++ new)) s
   -- at the end of input every field that is left
@@ -24,8 +25,10 @@ pub record Turned (room : ℕ) (s : Sheet) (held out : List ℕ) (taken : ℕ) (
   pub handed : out ≡ bytesOf (answersTo fields s)
   pub most : taken ≤ length out
   pub left : held′ ≡ drop (spanOf fields) (held ++ new)
-  -- more may follow, all answers are taken, and none is a 3
-  pub goes-on : more ≡ ((not ended && eqb taken (length out)) && not (anyLast (answersTo fields s)))
+  -- a failed read is no end of input
+  pub unended : failed ≡ true → ended ≡ false
+  -- more may follow, all answers are taken, and none is a 3 (SCOPE 9.4)
+  pub goes-on : more ≡ (((not ended && not failed) && eqb taken (length out)) && not (anyLast (answersTo fields s)))
 
 -- so many turns, the first from a sheet with no bytes held: all bytes read in them, all handed on, and what is kept after the last
 pub data Turns : ℕ → Sheet → ℕ → List ℕ → List ℕ → Sheet → List ℕ → Bool → Type 0 where
@@ -38,11 +41,12 @@ pub record Due (s : Sheet) (input out : List ℕ) (s′ : Sheet) (left : List (L
   pub answers : bytesOf (answersTo (fieldsOf input) s) ≡ out ++ bytesOf (answersTo left s′)
   pub sheet : sheetAfter (fieldsOf input) s ≡ sheetAfter left s′
 
--- how a service stops: all of its input is answered; or a 3, after which nothing is due, whatever follows; or a failed write
+-- how a service stops: all of its input is answered; or a 3, after which nothing is due, whatever follows; or a read or a write that
+-- failed, after which the bytes held are due with whatever follows them (SCOPE 9.4)
 pub data Stopped : Sheet → List ℕ → List ℕ → Sheet → Type 0 where
   at-end : {s s′ : Sheet} {read out : List ℕ} → Due s read out s′ [] → Stopped s read out s′
   at-3 : {s s′ : Sheet} {read out : List ℕ} → ((t : List ℕ) → Due s (read ++ t) out s′ []) → Stopped s read out s′
-  unwritten : {s s′ : Sheet} {read out : List ℕ} (held : List ℕ) → ((t : List ℕ) → Due s (read ++ t) out s′ (fieldsOf (held ++ t))) → Stopped s read out s′
+  at-failure : {s s′ : Sheet} {read out : List ℕ} (held : List ℕ) → ((t : List ℕ) → Due s (read ++ t) out s′ (fieldsOf (held ++ t))) → Stopped s read out s′
 
 -- a service that ran: its turns, and that it goes on only where they are used up
 pub record Served (room : ℕ) (s s′ : Sheet) (held : List ℕ) (more : Bool) : Type 0 where

@@ -1,7 +1,8 @@
-// A second checker, made from the scope document alone and apart from the library: it keeps a working sheet itself,
+// A second checker, made apart from the library, by docs/SCOPE.md: it keeps a working sheet itself,
 // works out what each answer must be, and tries every admissible combination of a small sheet.
 
 ghost use Prim.Native.Nat.{_<_};
+ghost use lib.ListN.{length};
 use recheck_bytes::byte_at;
 use recheck_bytes::index_at;
 use recheck_bytes::number_at;
@@ -19,10 +20,9 @@ use recheck_sheet::WorkingSheet;
 use recheck_sheet::changed;
 use std::num::wrapping_add_u64;
 
-// The sheet after a reading, and what was seen: whether the answer is right, whether a look was asked for and
-// answered, whether that look had too many cases for the enumeration, and whether a refusal was due.
-pub struct Checked {
-    pub working: WorkingSheet,
+// What was seen of a reading: whether the answer is right, whether a look was asked for and answered, whether that look had
+// too many cases for the enumeration, and whether a refusal was due.
+pub struct Seen {
     pub ok: bool,
     pub looked: bool,
     pub skipped: bool,
@@ -52,6 +52,13 @@ fn named_at(answer: &[u8], at: usize, figure: u64) -> Named
     }
 }
 
+// Whether the answer has this many bytes and begins with these three.
+fn headed(answer: &[u8], size: usize, header: &[u8]) -> bool
+    requires { ⌜ length (now header) < 4 ⌝ }
+{
+    (answer.len() == size) & same_at(answer, 0, header)
+}
+
 // A signed number of eight bytes, moved up by 2^63 as the figures are.
 fn signed_at(answer: &[u8], at: usize) -> u64
     requires { ⌜ at < 100 ⌝ }
@@ -67,15 +74,23 @@ fn options(w: WorkingSheet) -> Options {
     }
 }
 
+// Whether every admissible combination is between the ends; of a sheet too large for that, that the ends are in order.
+fn bounded(k: Look, o: Options, kinds: &[u8; 32], effects: &[u16; 96]) -> bool {
+    if is_large(kinds) {
+        return k.least <= k.greatest;
+    }
+    all_between(k, o, kinds, effects)
+}
+
+// The combinations named from these places on give the greatest and the least figure, and every other is between them.
+fn ends_right(k: Look, o: Options, kinds: &[u8; 32], effects: &[u16; 96], answer: &[u8]) -> bool {
+    let maximum = reaches(k, o, kinds, effects, named_at(answer, 11, k.greatest));
+    let minimum = reaches(k, o, kinds, effects, named_at(answer, 28, k.least));
+    maximum & minimum & bounded(k, o, kinds, effects)
+}
+
 fn extremes_right(w: WorkingSheet, field: &[u8], answer: &[u8]) -> bool {
-    if answer.len() != 37 {
-        return false;
-    }
-    if !same_at(answer, 0, b"\x86\x00\x22") {
-        return false;
-    }
     let effects = effects_at(&w.effects, index_at(field, 3));
-    let o = options(w);
     let k = Look {
         component: byte_at(field, 4),
         low_factor: low_factor(w.method),
@@ -85,109 +100,87 @@ fn extremes_right(w: WorkingSheet, field: &[u8], answer: &[u8]) -> bool {
         bending_y: 0,
         bending_z: 0,
     };
-    if !reaches(k, o, &w.kinds, &effects, named_at(answer, 11, k.greatest)) {
-        return false;
-    }
-    if !reaches(k, o, &w.kinds, &effects, named_at(answer, 28, k.least)) {
-        return false;
-    }
-    if is_large(&w.kinds) {
-        return k.least <= k.greatest;
-    }
-    all_between(k, o, &w.kinds, &effects)
+    let header = headed(answer, 37, b"\x86\x00\x22");
+    header & ends_right(k, options(w), &w.kinds, &effects, answer)
 }
 
-// One capacity of a station.
-fn capacity(w: WorkingSheet, station: usize, component: usize) -> u64 {
-    let at = station % 16 * 3 + component % 3;
-    w.capacities[at] as u64
-}
-
-fn utilisation_right(w: WorkingSheet, field: &[u8], answer: &[u8]) -> bool {
-    if answer.len() != 29 {
-        return false;
-    }
-    if !same_at(answer, 0, b"\x87\x00\x1a") {
-        return false;
-    }
-    let station = index_at(field, 3);
-    let effects = effects_at(&w.effects, station);
-    let o = options(w);
-    let k = Look {
+// What a 07 asks for, with the station's capacities.
+fn utilisation_look(w: WorkingSheet, station: usize, greatest: u64) -> Look {
+    let first = station % 16 * 3;
+    let second = first + 1;
+    let third = first + 2;
+    Look {
         component: 3,
         low_factor: low_factor(w.method),
         least: 0,
-        greatest: number_at(answer, 3, 8),
-        axial: capacity(w, station, 0),
-        bending_y: capacity(w, station, 1),
-        bending_z: capacity(w, station, 2),
-    };
-    if !share_right(k, number_at(answer, 11, 8), byte_at(answer, 19)) {
-        return false;
+        greatest: greatest,
+        axial: w.capacities[first] as u64,
+        bending_y: w.capacities[second] as u64,
+        bending_z: w.capacities[third] as u64,
     }
-    if !reaches(k, o, &w.kinds, &effects, named_at(answer, 20, k.greatest)) {
-        return false;
-    }
-    if is_large(&w.kinds) {
-        return true;
-    }
-    all_between(k, o, &w.kinds, &effects)
+}
+
+fn utilisation_right(w: WorkingSheet, field: &[u8], answer: &[u8]) -> bool {
+    let station = index_at(field, 3);
+    let effects = effects_at(&w.effects, station);
+    let o = options(w);
+    let k = utilisation_look(w, station, number_at(answer, 3, 8));
+    let header = headed(answer, 29, b"\x87\x00\x1a");
+    let share = share_right(k, number_at(answer, 11, 8), byte_at(answer, 19));
+    let reached = reaches(k, o, &w.kinds, &effects, named_at(answer, 20, k.greatest));
+    header & share & reached & bounded(k, o, &w.kinds, &effects)
 }
 
 // The denominator is the formula's, and the verdict is pass exactly where the numerator is not above it.
 fn share_right(k: Look, denominator: u64, verdict: u8) -> bool {
-    let moments = times(k.bending_y, k.bending_z);
-    if times(times(1000, k.axial), moments) != denominator {
-        return false;
-    }
-    if k.greatest <= denominator {
-        verdict == 1
-    } else {
-        verdict == 0
-    }
+    let formula = times(times(1000, k.axial), times(k.bending_y, k.bending_z));
+    let pass = k.greatest <= denominator;
+    (formula == denominator) & (verdict == pass as u8)
 }
 
 // `81 00 01 n`
 fn is_refusal(answer: &[u8], n: u8) -> bool {
-    if answer.len() != 4 {
-        return false;
-    }
-    if !same_at(answer, 0, b"\x81\x00\x01") {
-        return false;
-    }
-    byte_at(answer, 3) == n
+    headed(answer, 4, b"\x81\x00\x01") & (byte_at(answer, 3) == n)
 }
 
 // `80 00 00`
 fn is_accepted(answer: &[u8]) -> bool {
-    if answer.len() != 3 {
-        return false;
-    }
-    same_at(answer, 0, b"\x80\x00\x00")
+    headed(answer, 3, b"\x80\x00\x00")
 }
 
-fn reading_checked(w: WorkingSheet, ok: bool, looked: bool, refused: bool) -> Checked {
-    Checked {
-        working: w,
-        ok: ok,
-        looked: looked,
-        skipped: looked && is_large(&w.kinds),
-        refused: refused,
+// Whether the answer to a field that no refusal is due for is right.
+fn carried_out(w: WorkingSheet, field: &[u8], answer: &[u8]) -> bool {
+    match byte_at(field, 0) {
+        6 => extremes_right(w, field, answer),
+        7 => utilisation_right(w, field, answer),
+        _ => is_accepted(answer),
     }
 }
 
 // Checks the answer to one reading: a whole field, or one cut short.
-pub fn check_answer(w: WorkingSheet, field: &[u8], answer: &[u8]) -> Checked {
+pub fn check_answer(w: WorkingSheet, field: &[u8], answer: &[u8]) -> Seen {
     let n = refusal_due(w, field);
     if n != 0 {
-        return reading_checked(w, is_refusal(answer, n), false, true);
+        return Seen {
+            ok: is_refusal(answer, n),
+            looked: false,
+            skipped: false,
+            refused: true,
+        };
     }
-    let tag = byte_at(field, 0);
-    if tag == 6 {
-        return reading_checked(w, extremes_right(w, field, answer), true, false);
+    let looked = byte_at(field, 0) >= 6;
+    Seen {
+        ok: carried_out(w, field, answer),
+        looked: looked,
+        skipped: looked & is_large(&w.kinds),
+        refused: false,
     }
-    if tag == 7 {
-        return reading_checked(w, utilisation_right(w, field, answer), true, false);
+}
+
+// The sheet after a reading: the same where a refusal is due.
+pub fn sheet_after(w: WorkingSheet, field: &[u8]) -> WorkingSheet {
+    if refusal_due(w, field) == 0 {
+        return changed(w, field);
     }
-    reading_checked(changed(w, field), is_accepted(answer), false, false)
+    w
 }

@@ -1,4 +1,4 @@
--- Bytes of fields and answers as numbers, the high byte first. Past the end stands 0.
+-- SCOPE 5.1: bytes of fields and answers as numbers, the high byte first. Past the end stands 0.
 use Prim.Native.Nat.{ℕ, zero, suc, _+_, _*_, _%_}
 use mathlib.Core.List.{List}
 use mathlib.Core.Bool.{Bool, true, _&&_, _||_}

@@ -5,6 +5,9 @@ ghost use Prim.Native.Nat.{_+_, _<_};
 ghost use lib.ListN.{length};
 ghost use Rattle.recheck_bytes.specs.Bytes.{byteAt, pairAt, numberAt, sameUpTo, filledUpTo};
 
+// Outputs hold this byte before each call, so that a byte written past the end is seen.
+pub const UNWRITTEN: u8 = 0xEE;
+
 fn wide(x: u8) -> u64
     ensures { λ r. ⌜ r ≡ x ⌝ }
 {

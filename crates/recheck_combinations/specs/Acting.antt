@@ -1,4 +1,4 @@
--- Which sets of cases may act and be low in a row. Sets of cases are numbers, case k being bit k.
+-- SCOPE 4.2 and 4.3: which sets of cases may act and be low in a row. Sets of cases are numbers, case k being bit k (SCOPE 6.2).
 use Prim.Native.Nat.{ℕ, _-_, _≤_}
 use mathlib.Core.List.{List}
 use mathlib.Core.Bool.{Bool, _&&_}
@@ -14,6 +14,7 @@ within set all = eqb (bitOr set all) all
 abbrev pub atMostOne : ℕ → Bool
 atMostOne set = eqb (bitAnd set (set - 1)) 0
 
+-- whether a set of cases may act (SCOPE 4.2)
 unfoldable pub mayAct : Rules → ℕ → Bool
 mayAct r acting =
     within acting (r .may)
@@ -23,6 +24,7 @@ mayAct r acting =
     && atMostOne (bitAnd acting (r .earthquake))
     && atMostOne (bitAnd acting (r .flood))
 
+-- whether a set may be low: it holds acting Hp cases only (SCOPE 4.3)
 abbrev pub mayBeLow : Rules → ℕ → ℕ → Bool
 mayBeLow r acting low = within low (bitAnd acting (r .hp))
 

@@ -178,16 +178,9 @@ pub struct Named {
 
 // Whether the combination named is admissible and gives exactly the figure beside it.
 pub fn reaches(k: Look, o: Options, kinds: &[u8; 32], effects: &[u16; 96], c: Named) -> bool {
-    if !open(c.row, o.method, o.zone) {
-        return false;
-    }
     let factors = factors_in(kinds, c.row, o.live);
     let r = rules_of(kinds, &factors);
-    if !may_act(r, c.acting) {
-        return false;
-    }
-    if !may_be_low(r, c.acting, c.low) {
-        return false;
-    }
-    figure(k, &factors, effects, c.acting, c.low) == c.figure
+    let f = figure(k, &factors, effects, c.acting, c.low);
+    let admissible = may_act(r, c.acting) & may_be_low(r, c.acting, c.low);
+    open(c.row, o.method, o.zone) & admissible & (f == c.figure)
 }

@@ -5,6 +5,7 @@ ghost use Prim.Native.Nat.{_<_};
 ghost use lib.ListN.{length};
 ghost use Rattle.sheet.specs.Range.{InRange};
 use envelope::Extreme;
+use recheck_bytes::UNWRITTEN;
 use recheck_bytes::byte_at;
 use recheck_bytes::filled_from;
 use recheck_bytes::index_at;
@@ -15,9 +16,6 @@ use saving::Saved;
 use sheet::Answer;
 use sheet::Answered;
 use sheet::Sheet;
-
-// The outputs hold this byte before each call, so that a byte written past the end is seen.
-const UNWRITTEN: u8 = 0xEE;
 
 fn is_written(s: Saved, n: usize) -> bool {
     let Saved::Written(count) = s else {

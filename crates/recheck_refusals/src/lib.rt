@@ -1,4 +1,4 @@
-// What a field is owed before it is carried out: the first refusal due, in the order of the paper. 0 is none.
+// What a field is owed before it is carried out: the first refusal due, in the order of SCOPE 7.2. 0 is none.
 
 ghost use Prim.Native.Nat.{_≤_, _<_};
 use recheck_bytes::byte_at;
@@ -20,93 +20,12 @@ fn body_length(tag: u8) -> u16 {
     }
 }
 
-fn header_refusal(field: &[u8]) -> u8
+// The refusal where it is due.
+fn due(refused: bool, number: u8) -> u8
+    requires { ⌜ number ≤ 13 ⌝ }
     ensures { λ r. ⌜ r ≤ 13 ⌝ }
 {
-    if field.len() < 3 {
-        return 3;
-    }
-    let length = pair_at(field, 1);
-    if length > 60000 {
-        return 3;
-    }
-    if field.len() - 3 < length as usize {
-        return 3;
-    }
-    let wanted = body_length(byte_at(field, 0));
-    if wanted == 65535 {
-        return 1;
-    }
-    if length == wanted { 0 } else { 2 }
-}
-
-fn case_refusal(field: &[u8], at: usize) -> u8
-    ensures { λ r. ⌜ r ≤ 13 ⌝ }
-{
-    if byte_at(field, at) > 31 { 5 } else { 0 }
-}
-
-fn station_refusal(field: &[u8], at: usize) -> u8
-    ensures { λ r. ⌜ r ≤ 13 ⌝ }
-{
-    if byte_at(field, at) > 15 { 6 } else { 0 }
-}
-
-// Two's complement: -10,000 is 55,536.
-fn effect_refusal(field: &[u8], at: usize) -> u8
-    requires { ⌜ at < 60000 ⌝ }
-    ensures { λ r. ⌜ r ≤ 13 ⌝ }
-{
-    let effect = pair_at(field, at);
-    if effect > 10000 {
-        if effect < 55536 {
-            return 9;
-        }
-    }
-    0
-}
-
-fn capacity_refusal(field: &[u8], at: usize) -> u8
-    requires { ⌜ at < 60000 ⌝ }
-    ensures { λ r. ⌜ r ≤ 13 ⌝ }
-{
-    let capacity = pair_at(field, at);
-    if capacity < 1 {
-        return 10;
-    }
-    if capacity > 10000 { 10 } else { 0 }
-}
-
-fn start_refusal(field: &[u8]) -> u8
-    ensures { λ r. ⌜ r ≤ 13 ⌝ }
-{
-    let method = byte_at(field, 3);
-    if method < 1 {
-        return 4;
-    }
-    if method > 2 {
-        return 4;
-    }
-    if byte_at(field, 4) > 1 {
-        return 4;
-    }
-    if byte_at(field, 5) > 2 { 4 } else { 0 }
-}
-
-fn kind_refusal(field: &[u8], at: usize) -> u8
-    ensures { λ r. ⌜ r ≤ 13 ⌝ }
-{
-    let kind = byte_at(field, at);
-    if kind < 1 {
-        return 7;
-    }
-    if kind > 11 { 7 } else { 0 }
-}
-
-fn component_refusal(field: &[u8], at: usize) -> u8
-    ensures { λ r. ⌜ r ≤ 13 ⌝ }
-{
-    if byte_at(field, at) > 2 { 8 } else { 0 }
+    if refused { number } else { 0 }
 }
 
 // The first of several that is due.
@@ -116,6 +35,69 @@ fn first(a: u8, b: u8) -> u8
     ensures { λ r. ⌜ r ≤ 13 ⌝ }
 {
     if a == 0 { b } else { a }
+}
+
+fn header_refusal(field: &[u8]) -> u8
+    ensures { λ r. ⌜ r ≤ 13 ⌝ }
+{
+    let n = field.len();
+    let length = pair_at(field, 1);
+    let wanted = body_length(byte_at(field, 0));
+    let cut = due((n < 3) | (length > 60000) | (n < 3 + length as usize), 3);
+    first(
+        cut,
+        first(due(wanted == 65535, 1), due(length != wanted, 2)),
+    )
+}
+
+fn case_refusal(field: &[u8], at: usize) -> u8
+    ensures { λ r. ⌜ r ≤ 13 ⌝ }
+{
+    due(byte_at(field, at) > 31, 5)
+}
+
+fn station_refusal(field: &[u8], at: usize) -> u8
+    ensures { λ r. ⌜ r ≤ 13 ⌝ }
+{
+    due(byte_at(field, at) > 15, 6)
+}
+
+// Two's complement: -10,000 is 55,536.
+fn effect_refusal(field: &[u8], at: usize) -> u8
+    requires { ⌜ at < 60000 ⌝ }
+    ensures { λ r. ⌜ r ≤ 13 ⌝ }
+{
+    let effect = pair_at(field, at);
+    due((effect > 10000) & (effect < 55536), 9)
+}
+
+fn capacity_refusal(field: &[u8], at: usize) -> u8
+    requires { ⌜ at < 60000 ⌝ }
+    ensures { λ r. ⌜ r ≤ 13 ⌝ }
+{
+    let capacity = pair_at(field, at);
+    due((capacity < 1) | (capacity > 10000), 10)
+}
+
+fn start_refusal(field: &[u8]) -> u8
+    ensures { λ r. ⌜ r ≤ 13 ⌝ }
+{
+    let method = byte_at(field, 3);
+    let options = (byte_at(field, 4) > 1) | (byte_at(field, 5) > 2);
+    due((method < 1) | (method > 2) | options, 4)
+}
+
+fn kind_refusal(field: &[u8], at: usize) -> u8
+    ensures { λ r. ⌜ r ≤ 13 ⌝ }
+{
+    let kind = byte_at(field, at);
+    due((kind < 1) | (kind > 11), 7)
+}
+
+fn component_refusal(field: &[u8], at: usize) -> u8
+    ensures { λ r. ⌜ r ≤ 13 ⌝ }
+{
+    due(byte_at(field, at) > 2, 8)
 }
 
 // The body's values, from first to last.
@@ -147,27 +129,21 @@ fn body_refusal(field: &[u8]) -> u8
 fn sheet_refusal(w: WorkingSheet, field: &[u8]) -> u8
     ensures { λ r. ⌜ r ≤ 13 ⌝ }
 {
-    let case = index_at(field, 3) % 32;
-    let station = index_at(field, 3) % 16 * 3;
-    match byte_at(field, 0) {
-        2 => { if w.kinds[case] == 0 { 0 } else { 11 } }
-        3 | 4 => { if w.kinds[case] == 0 { 12 } else { 0 } }
-        7 => { if w.capacities[station] == 0 { 13 } else { 0 } }
-        _ => 0,
-    }
+    let tag = byte_at(field, 0);
+    let place = index_at(field, 3);
+    let case = place % 32;
+    let station = place % 16 * 3;
+    let empty = w.kinds[case] == 0;
+    let bare = w.capacities[station] == 0;
+    let taken = due((tag == 2) & !empty, 11);
+    let missing = due(((tag == 3) | (tag == 4)) & empty, 12);
+    first(taken, first(missing, due((tag == 7) & bare, 13)))
 }
 
 // The refusal due for a reading on this sheet, or 0.
 pub fn refusal_due(w: WorkingSheet, field: &[u8]) -> u8
     ensures { λ r. ⌜ r ≤ 13 ⌝ }
 {
-    let header = header_refusal(field);
-    if header != 0 {
-        return header;
-    }
-    let body = body_refusal(field);
-    if body != 0 {
-        return body;
-    }
-    sheet_refusal(w, field)
+    let values = first(body_refusal(field), sheet_refusal(w, field));
+    first(header_refusal(field), values)
 }

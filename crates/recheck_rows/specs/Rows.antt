@@ -1,4 +1,4 @@
--- Which rows a sheet opens, and the low factor. Flood rows come beside the plain ones.
+-- SCOPE 3.7: which rows a sheet opens, and the low factor. Flood rows come beside the plain ones.
 use Prim.Native.Nat.{ℕ}
 use mathlib.Core.Bool.{Bool, cond, _&&_, _||_}
 use lib.Dec.{eqb, leb}
@@ -16,5 +16,6 @@ allowableOpen row zone = between row 21 30 || between row 31 35 && eqb zone 1 ||
 abbrev pub isOpen : ℕ → ℕ → ℕ → Bool
 isOpen row method zone = cond (eqb method 1) (strengthOpen row zone) (allowableOpen row zone)
 
+-- in place of the full factor of Hp (SCOPE 4.3)
 abbrev pub lowFactor : ℕ → ℕ
 lowFactor method = cond (eqb method 1) 900 600

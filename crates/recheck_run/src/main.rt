@@ -1,12 +1,239 @@
-// Runs the library's reader over the stored fields on standard input, has every field and its answer checked (crate
-// recheck_readings), and writes a summary.
-use recheck_readings::Tally;
-use recheck_readings::first_run;
-use recheck_readings::step;
-use recheck_readings::with_list;
-ghost use Prim.Native.Nat.{_<_};
+// Runs the library's reader over the stored fields on standard input, has each answer checked by the second checker (crate
+// recheck_answers) and the library's other calls compared with it, and writes a summary.
+use recheck_answers::check_answer;
+use recheck_answers::sheet_after;
+use recheck_bytes::UNWRITTEN;
+use recheck_bytes::filled_from;
+use recheck_bytes::same_at;
+use recheck_methods::method_agrees;
+use recheck_methods::saved_agrees;
+use recheck_readings::fresh_sheet;
+use recheck_readings::read_short;
+use recheck_readings::read_whole;
+use recheck_saving::saved_form;
+use recheck_sheet::WorkingSheet;
+use recheck_tally::Tally;
+use recheck_tally::answers_buffer;
+use recheck_tally::input_buffer;
+use recheck_tally::summary;
+use recheck_tally::with_list;
+use recheck_tally::with_reading;
+use recheck_tally::with_short;
+use sheet::Sheet;
+use std::num::wrapping_add_usize;
+ghost use mathlib.Core.Path.{_≡_};
+ghost use Prim.Native.Nat.{_≤_, _<_};
 ghost use lib.ListN.{length};
+ghost use Rattle.sheet.specs.Range.{InRange};
+ghost use Rattle.recheck_run.specs.Place.{Place, Within};
 
+// The reader's sheet, the second checker's working sheet, the place of the next field, and that of its answer among those of
+// the fields in one list.
+struct Run {
+    sheet: Sheet,
+    working: WorkingSheet,
+    start: usize,
+    listed: usize,
+    tally: Tally,
+}
+
+// Whether the output has these bytes, and no more are written.
+fn holds(out: &[u8], bytes: &[u8]) -> bool
+    requires { ⌜ length (now bytes) < 6000 ⌝ }
+{
+    same_at(out, 0, bytes) & filled_from(out, bytes.len(), UNWRITTEN)
+}
+
+// A list of one field on a saved sheet: the answer is the reader's.
+fn answer_agrees(state: &[u8], field: &[u8], answer: &[u8]) -> bool
+    requires { ⌜ length (now answer) < 6000 ⌝ }
+{
+    let mut out = [UNWRITTEN; 64];
+    let r = frames_c::frames_answer(state, field, &mut out);
+    (r.refusal == 0) & (r.written == answer.len()) & (r.saved == 0) & holds(&out, answer)
+}
+
+// The same, and what is saved is the sheet after the field.
+fn run_agrees(state: &[u8], field: &[u8], answer: &[u8], after: &[u8]) -> bool
+    requires { ⌜ length (now answer) < 6000 ⌝ }
+    requires { ⌜ length (now after) < 6000 ⌝ }
+{
+    let mut out = [UNWRITTEN; 64];
+    let mut saved = [UNWRITTEN; 5960];
+    let r = frames_c::frames_run(state, field, &mut out, &mut saved);
+    let ran = (r.refusal == 0) & (r.written == answer.len()) & (r.saved == after.len());
+    ran & holds(&out, answer) & holds(&saved, after)
+}
+
+// Saving, the methods by value and the lists of one field, given the second checker's saved forms before and after the field.
+fn forms_agree(
+    sheet: Sheet,
+    next: Sheet,
+    field: &[u8],
+    answer: &[u8],
+    old: &[u8],
+    new: &[u8],
+) -> bool
+    requires { ⌜ InRange sheet ⌝ }
+    requires { ⌜ length (now answer) < 65 ⌝ }
+    requires { ⌜ length (now new) < 5959 ⌝ }
+{
+    let saved = saved_agrees(next, new);
+    let methods = method_agrees(sheet, field, answer, new);
+    let lists = answer_agrees(old, field, answer) & run_agrees(old, field, answer, new);
+    saved & methods & lists
+}
+
+// Whether the library's other calls agree with the reader.
+fn calls_agree(
+    before: WorkingSheet,
+    after: WorkingSheet,
+    sheet: Sheet,
+    next: Sheet,
+    field: &[u8],
+    answer: &[u8],
+) -> bool
+    requires { ⌜ InRange sheet ⌝ }
+    requires { ⌜ length (now answer) < 65 ⌝ }
+{
+    let old = saved_form(before);
+    let new = saved_form(after);
+    let state = old.bytes;
+    let own = new.bytes;
+    let n = old.count;
+    let m = new.count;
+    forms_agree(sheet, next, field, answer, &state[0..n], &own[0..m])
+}
+
+// Whether the answer stands at its place in those of one list. The list ends with its first refusal 3.
+fn list_agrees(list: &[u8], at: usize, answer: &[u8]) -> bool
+    requires { ⌜ length (now list) < 1000000 ⌝ }
+    requires { ⌜ length (now answer) < 65 ⌝ }
+{
+    list.len() <= at || same_at(list, at, answer)
+}
+
+// The run after a reading of this field with this answer: what the second checker and the other calls say of it.
+fn checked(
+    run: Run,
+    next: Sheet,
+    end: usize,
+    clean: bool,
+    field: &[u8],
+    list: &[u8],
+    answer: &[u8],
+) -> Run
+    requires { ⌜ InRange (run .sheet) ⌝ }
+    requires { ⌜ length (now list) < 1000000 ⌝ }
+    requires { ⌜ length (now answer) < 65 ⌝ }
+    ensures { λ r. ⌜ (r .sheet ≡ next) × (r .start ≡ end) ⌝ }
+{
+    let working = run.working;
+    let sheet = run.sheet;
+    let t = run.tally;
+    let j = check_answer(working, field, answer);
+    let after = sheet_after(working, field);
+    let calls = calls_agree(working, after, sheet, next, field, answer);
+    let listed = list_agrees(list, run.listed, answer);
+    let ok = j.ok & calls & listed & clean;
+    Run {
+        sheet: next,
+        working: after,
+        start: end,
+        listed: wrapping_add_usize(run.listed, answer.len()),
+        tally: with_reading(t, ok, j.looked, j.skipped, j.refused),
+    }
+}
+
+// Where a reading's bytes end: a field of length 60,001 that is wholly there has 60,004, and no reading is given more.
+fn reading_end(start: usize, n: usize) -> usize
+    requires { ⌜ start ≤ n ⌝ }
+    ensures { λ r. ⌜ Within start n r ⌝ }
+{
+    if n - start < 60004 { n } else { start + 60004 }
+}
+
+// One reading with room for every answer, checked.
+fn read_and_check(run: Run, input: &[u8], list: &[u8]) -> Run
+    requires { ⌜ Place (run .sheet) (run .start) (now input) ⌝ }
+    requires { ⌜ length (now list) < 1000000 ⌝ }
+    ensures { λ r. ⌜ Place (r .sheet) (r .start) (now (input .entry)) ⌝ }
+{
+    let mut out = [UNWRITTEN; 64];
+    let sheet = run.sheet;
+    let start = run.start;
+    let last = reading_end(start, input.len());
+    let r = read_whole(sheet, &input[start..last], &mut out);
+    let written = r.written;
+    let end = start + r.consumed;
+    let next = r.sheet;
+    checked(
+        run,
+        next,
+        end,
+        r.clean,
+        &input[start..end],
+        list,
+        &out[0..written],
+    )
+}
+
+// The reading with the short output. The sheet that comes back is used from here on, so that a change to it is seen.
+fn try_short(run: Run, input: &[u8]) -> Run
+    requires { ⌜ Place (run .sheet) (run .start) (now input) ⌝ }
+    ensures { λ r. ⌜ Place (r .sheet) (r .start) (now (input .entry)) ⌝ }
+{
+    let sheet = run.sheet;
+    let start = run.start;
+    let r = read_short(sheet, &input[start..]);
+    let next = r.sheet;
+    let t = run.tally;
+    let working = run.working;
+    Run {
+        sheet: next,
+        working,
+        start,
+        listed: run.listed,
+        tally: with_short(t, r.clean),
+    }
+}
+
+// Every fifth field is first read with the short output.
+fn step(run: Run, input: &[u8], list: &[u8]) -> Run
+    requires { ⌜ Place (run .sheet) (run .start) (now input) ⌝ }
+    requires { ⌜ length (now list) < 1000000 ⌝ }
+    ensures { λ r. ⌜ Place (r .sheet) (r .start) (now (input .entry)) ⌝ }
+{
+    if run.tally.readings % 5 == 0 {
+        let tried = try_short(run, input);
+        return read_and_check(tried, input, list);
+    }
+    read_and_check(run, input, list)
+}
+
+fn first_run() -> Run
+    ensures { λ r. ⌜ InRange (r .sheet) ⌝ }
+    ensures { λ r. ⌜ r .start ≡ 0 ⌝ }
+{
+    let sheet = fresh_sheet();
+    let working = recheck_sheet::fresh();
+    let tally = Tally {
+        readings: 0,
+        looks: 0,
+        large: 0,
+        refused: 0,
+        short: 0,
+        differences: 0,
+        first: 0,
+    };
+    Run {
+        sheet,
+        working,
+        start: 0,
+        listed: 0,
+        tally,
+    }
+}
 // The turns left after one: none where the input is at its end.
 fn remaining(more: bool, left: usize) -> usize
     requires { ⌜ 0 < left ⌝ }
@@ -31,7 +258,7 @@ fn run_all(input: &[u8], list: &[u8]) -> Tally
 
 // The fields in one list, before they are read one after the other.
 fn run_both(input: &[u8]) -> Tally {
-    let mut answers = [0u8; 131072];
+    let mut answers = answers_buffer();
     let mut saved = [0u8; 5958];
     let r = frames_c::frames_run(b"", input, &mut answers, &mut saved);
     let written = r.written;
@@ -41,27 +268,9 @@ fn run_both(input: &[u8]) -> Tally {
     run_all(input, b"")
 }
 
-fn put_count(n: u64, words: &[u8]) {
-    io::print_decimal(1, n);
-    io::write_all(1, words);
-}
-
-fn summary(t: Tally) {
-    if t.first != 0 {
-        io::write_all(1, b"first difference at reading ");
-        put_count(t.first, b"\n");
-    }
-    put_count(t.readings, b" readings, ");
-    put_count(t.looks, b" looks enumerated, ");
-    put_count(t.large, b" looks too large, ");
-    put_count(t.refused, b" refusals, ");
-    put_count(t.short, b" short outputs refused, ");
-    put_count(t.differences, b" differences\n");
-}
-
 // The stored input is smaller than the buffer.
 fn main() {
-    let mut buffer = [0u8; 262144];
+    let mut buffer = input_buffer();
     let n = io::read_full(0, &mut buffer);
     let t = run_both(&buffer[..n]);
     summary(t);

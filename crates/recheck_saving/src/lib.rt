@@ -1,4 +1,4 @@
-// The saved form of the working sheet, written from the scope document: tag 01; for each filled place, rising, tag 02, then
+// The saved form of the working sheet (SCOPE 8.1): tag 01; for each filled place, rising, tag 02, then
 // tag 03 for each station, rising, with an effect other than 0; then tag 05 for each station that has capacities.
 
 ghost use mathlib.Core.Path.{_≡_};
@@ -6,59 +6,28 @@ ghost use Prim.Native.Nat.{_+_, _≤_, _<_};
 ghost use lib.ListN.{length};
 use recheck_sheet::WorkingSheet;
 
-// One byte; the place of the next.
-fn put(out: &mut [u8], at: usize, byte: u8) -> usize
-    requires { ⌜ at < length (now out) ⌝ }
-    ensures { λ r. ⌜ r ≡ at + 1 ⌝ }
+// A field, or nothing where it is not asked for; the place of the next.
+fn put(out: &mut [u8], at: usize, asked: bool, field: &[u8]) -> usize
+    requires { ⌜ at + length (now field) ≤ length (now out) ⌝ }
+    ensures { λ r. ⌜ r ≤ at + length (now (field .entry)) ⌝ }
 {
-    out[at] = byte;
-    at + 1
+    if !asked {
+        return at;
+    }
+    let mut i: usize = 0;
+    while i < field.len() {
+        out[at + i] = field[i];
+        i += 1;
+    }
+    at + i
 }
 
-// Tag and length of a field; the length is below 256.
-fn put_header(out: &mut [u8], at: usize, tag: u8, size: u8) -> usize
-    requires { ⌜ at + 3 ≤ length (now out) ⌝ }
-    ensures { λ r. ⌜ r ≡ at + 3 ⌝ }
-{
-    let second = put(out, at, tag);
-    let third = put(out, second, 0);
-    put(out, third, size)
+fn high(n: u16) -> u8 {
+    (n / 256) as u8
 }
 
-fn put_pair(out: &mut [u8], at: usize, n: u16) -> usize
-    requires { ⌜ at + 2 ≤ length (now out) ⌝ }
-    ensures { λ r. ⌜ r ≡ at + 2 ⌝ }
-{
-    let second = put(out, at, (n / 256) as u8);
-    put(out, second, (n % 256) as u8)
-}
-
-fn put_three(out: &mut [u8], at: usize, n: u16, y: u16, z: u16) -> usize
-    requires { ⌜ at + 6 ≤ length (now out) ⌝ }
-    ensures { λ r. ⌜ r ≡ at + 6 ⌝ }
-{
-    let second = put_pair(out, at, n);
-    let third = put_pair(out, second, y);
-    put_pair(out, third, z)
-}
-
-fn put_settings(out: &mut [u8], method: u8, live: u8, zone: u8) -> usize
-    requires { ⌜ 6 ≤ length (now out) ⌝ }
-    ensures { λ r. ⌜ r ≡ 6 ⌝ }
-{
-    let body = put_header(out, 0, 1, 3);
-    let second = put(out, body, method);
-    let third = put(out, second, live);
-    put(out, third, zone)
-}
-
-fn put_place(out: &mut [u8], at: usize, case: u8, kind: u8) -> usize
-    requires { ⌜ at + 5 ≤ length (now out) ⌝ }
-    ensures { λ r. ⌜ r ≡ at + 5 ⌝ }
-{
-    let body = put_header(out, at, 2, 2);
-    let second = put(out, body, case);
-    put(out, second, kind)
+fn low(n: u16) -> u8 {
+    (n % 256) as u8
 }
 
 // Tag 03, unless all three effects are 0.
@@ -66,13 +35,20 @@ fn put_effects(out: &mut [u8], at: usize, case: u8, station: u8, n: u16, y: u16,
     requires { ⌜ at + 11 ≤ length (now out) ⌝ }
     ensures { λ r. ⌜ r ≤ at + 11 ⌝ }
 {
-    if n == 0 && y == 0 && z == 0 {
-        return at;
-    }
-    let body = put_header(out, at, 3, 8);
-    let second = put(out, body, case);
-    let third = put(out, second, station);
-    put_three(out, third, n, y, z)
+    let field = [
+        3u8,
+        0,
+        8,
+        case,
+        station,
+        high(n),
+        low(n),
+        high(y),
+        low(y),
+        high(z),
+        low(z),
+    ];
+    put(out, at, (n != 0) | (y != 0) | (z != 0), &field)
 }
 
 // The stations of one case.
@@ -103,7 +79,8 @@ fn put_case(kind: u8, effects: &[u16; 1536], out: &mut [u8], at: usize, case: us
     if kind == 0 {
         return at;
     }
-    let next = put_place(out, at, case as u8, kind);
+    let field = [2u8, 0, 2, case as u8, kind];
+    let next = put(out, at, true, &field);
     put_stations(effects, out, next, case)
 }
 
@@ -126,12 +103,19 @@ fn put_station(out: &mut [u8], at: usize, station: u8, n: u16, y: u16, z: u16) -
     requires { ⌜ at + 10 ≤ length (now out) ⌝ }
     ensures { λ r. ⌜ r ≤ at + 10 ⌝ }
 {
-    if n == 0 {
-        return at;
-    }
-    let body = put_header(out, at, 5, 7);
-    let second = put(out, body, station);
-    put_three(out, second, n, y, z)
+    let field = [
+        5u8,
+        0,
+        7,
+        station,
+        high(n),
+        low(n),
+        high(y),
+        low(y),
+        high(z),
+        low(z),
+    ];
+    put(out, at, n != 0, &field)
 }
 
 fn put_capacities(capacities: &[u16; 48], out: &mut [u8], start: usize) -> usize
@@ -153,14 +137,30 @@ fn put_capacities(capacities: &[u16; 48], out: &mut [u8], start: usize) -> usize
 }
 
 // Writes the saved form, and says how many bytes it has.
-pub fn put_saved(w: WorkingSheet, out: &mut [u8]) -> usize
+fn put_saved(w: WorkingSheet, out: &mut [u8]) -> usize
     requires { ⌜ 5958 ≤ length (now out) ⌝ }
     ensures { λ r. ⌜ r ≤ 5958 ⌝ }
 {
-    let settings = put_settings(out, w.method, w.live, w.zone);
+    let field = [1u8, 0, 3, w.method, w.live, w.zone];
+    let settings = put(out, 0, true, &field);
     let kinds = w.kinds;
     let effects = w.effects;
     let cases = put_cases(&kinds, &effects, out, settings);
     let capacities = w.capacities;
     put_capacities(&capacities, out, cases)
+}
+
+// The saved form of the working sheet: the first `count` of the bytes.
+pub struct SavedForm {
+    pub bytes: [u8; 5958],
+    pub count: usize,
+}
+
+pub fn saved_form(w: WorkingSheet) -> SavedForm
+    ensures { λ r. ⌜ r .count ≤ 5958 ⌝ }
+    ensures { λ r. ⌜ 5958 ≡ length (r .bytes) ⌝ }
+{
+    let mut bytes = [0u8; 5958];
+    let count = put_saved(w, &mut bytes);
+    SavedForm { bytes, count }
 }

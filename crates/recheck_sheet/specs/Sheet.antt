@@ -1,4 +1,4 @@
--- What becomes of the working sheet under tags 01 to 05. Case and station are taken within 32 and 16.
+-- SCOPE 5.2: what becomes of the working sheet under tags 01 to 05. Case and station are taken within 32 and 16.
 use Prim.Native.Nat.{ℕ, zero, suc, _+_, _*_, _%_}
 use mathlib.Core.List.{List, [], _∷_}
 use mathlib.Core.Bool.{cond}

@@ -1,5 +1,4 @@
--- 01, 'Answer fields': the refusals on body values, from first to last, and then 11, 12 or 13, as a list for
--- each tag.
+-- SCOPE 7.2: the refusals on body values, from first to last, and then 11, 12 or 13, as a list for each tag.
 use Prim.Native.Nat.{ℕ, _-_}
 use mathlib.Core.Bool.{Bool, cond, not, _||_}
 use mathlib.Core.List.{List, [], _∷_}
@@ -10,7 +9,7 @@ use Rattle.standard.specs.Kinds.{classOf, unknown}
 use Rattle.standard.specs.Combination.{caseCount}
 use Rattle.envelope.specs.Range.{effectLimit, capacityLimit, stationCount, componentCount}
 
--- cases, stations and components are numbered from 0
+-- cases, stations and components are numbered from 0 (SCOPE 2.1, 2.4, 7.1)
 abbrev pub caseOutside : ℕ → Bool
 caseOutside case = ltb (caseCount - 1) case
 
@@ -20,7 +19,7 @@ stationOutside station = ltb (stationCount - 1) station
 abbrev pub componentOutside : ℕ → Bool
 componentOutside component = ltb (componentCount - 1) component
 
--- effects run from -10,000 to 10,000, capacities from 1 to 10,000, methods from 1 to 2; a kind is one that has a class
+-- effects run from -10,000 to 10,000, capacities from 1 to 10,000, methods from 1 to 2; a kind is one that has a class (SCOPE 2.2 to 2.5)
 abbrev pub effectOutside : ℕ → Bool
 effectOutside raw = ltb effectLimit (natAbs (signed16 raw))
 

@@ -25,7 +25,8 @@ use Rattle.sheet.specs.Range.{InRange}
 use Rattle.sheet.proofs.Access.{Long, long, fresh-long, kind-long, effects-long, capacities-long, kind-filled, kind-other, effect-cleared, effect-kept, kind-leaves-capacity, kind-leaves-settings, effect-replaced, effect-other, effects-leave-kind, effects-leave-capacity, effects-leave-settings, capacity-replaced, capacity-other, capacities-leave-kind, capacities-leave-effect, capacities-leave-settings, fresh-settings, fresh-kind, fresh-effect, fresh-capacity, same-sheet}
 use Rattle.sheet.proofs.Refusals.{tried-none}
 use Rattle.sheet.specs.Looks.{edited}
-use Rattle.fields.specs.Order.{fieldOf, runOf}
+use Rattle.tags.specs.Run.{runOf}
+use Rattle.fields.specs.Order.{fieldOf}
 use Rattle.headers.specs.Headers.{dueHeader, lengthOf}
 use Rattle.restoring.proofs.Framing.{accepted}
 

@@ -1,4 +1,4 @@
--- 01, 'Saving': a saved sheet's bytes, by what its accessors give.
+-- SCOPE 8.1: a saved sheet's bytes, by what its accessors give.
 use Prim.Native.Nat.{ℕ, zero, suc, _+_, _*_}
 use mathlib.Core.List.{List, [], _∷_, _++_}
 use mathlib.Core.Bool.{Bool, cond, _&&_}
@@ -18,7 +18,7 @@ upTo f (suc n) = upTo f n ++ f n
 unfoldable pub words : ℕ → ℕ → ℕ → List ℕ
 words n y z = wordBytes n ++ (wordBytes y ++ wordBytes z)
 
--- tags 01, 02, 03 and 05
+-- tags 01, 02, 03 and 05 (SCOPE 5.2)
 unfoldable pub settingsField : Settings → List ℕ
 settingsField s = 1 ∷ 0 ∷ 3 ∷ s .method ∷ s .live ∷ s .zone ∷ []
 
@@ -58,7 +58,7 @@ savedBy settings kind effect capacity =
 unfoldable pub savedBytes : Sheet → List ℕ
 savedBytes s = savedBy (s .settings) (kindAt s) (effectAt s) (capacityAt s)
 
--- the most bytes of a station, of a place, of a station's capacities and of a sheet: 5,958
+-- the most bytes of a station, of a place, of a station's capacities and of a sheet: 5,958 (SCOPE 8.3)
 abbrev pub stationMost : ℕ
 stationMost = 11
 

@@ -1,4 +1,4 @@
--- 01, 'Saving': what saving answers and writes.
+-- SCOPE 8.2: what saving answers and writes.
 use Prim.Native.Nat.{ℕ}
 use mathlib.Core.List.{List}
 use mathlib.Core.Bool.{cond}

@@ -1,4 +1,4 @@
--- An edit of a sheet: the first refusal that is due, by the refusals of its tag, and the sheet after it.
+-- An edit of a sheet: the first refusal that is due, by the refusals of its tag (SCOPE 7.2), and the sheet after it (SCOPE 5.2, 7.3).
 use Prim.Native.Nat.{ℕ}
 use mathlib.Core.Bool.{cond}
 use lib.Dec.{eqb}
@@ -17,6 +17,6 @@ dueEffects s case station n y z = dueEffectsAt (kindAt s case) case station n y 
 abbrev pub dueEmpty : Sheet → ℕ → ℕ
 dueEmpty s case = dueEmptyAt (kindAt s case) case
 
--- If none is due, the table of tags says what becomes of the sheet; otherwise it stays as it was.
+-- If none is due, the table of tags says what becomes of the sheet; otherwise it stays as it was (SCOPE 9.2).
 unfoldable pub unlessRefused : ℕ → Sheet → Sheet → Edited
 unlessRefused due s s′ = record { refusal = due; sheet = cond (eqb due 0) s′ s }

@@ -1,4 +1,4 @@
--- The range of a sheet: what holds of every sheet that fields make from a fresh one.
+-- SCOPE 2.1 to 2.5: the range of a sheet, which is what holds of every sheet that fields make from a fresh one.
 use Prim.Native.Nat.{ℕ, _≤_, _<_}
 use mathlib.Core.Path.{_≡_}
 use mathlib.Core.Bool.{false}
@@ -14,11 +14,11 @@ use Rattle.effects.specs.Effects.{effectCount}
 use Rattle.sheet.specs.declared.Sheet.{Sheet}
 use Rattle.sheet.specs.Sheet.{kindAt, effectAt, capacityCount, capacityAt}
 
--- no refusal is due on the settings
+-- no refusal is due on the settings (SCOPE 2.2)
 abbrev pub SettingsInRange : Settings → Type 0
 SettingsInRange s = dueSettings (s .method) (s .live) (s .zone) ≡ 0
 
--- three capacities, or none
+-- three capacities, or none (SCOPE 2.5)
 abbrev pub AllOrNone : ℕ → ℕ → ℕ → Type 0
 AllOrNone n y z =
     ((n ≡ 0) × (y ≡ 0) × (z ≡ 0))
@@ -31,6 +31,6 @@ pub record InRange (s : Sheet) : Type 0 where
   pub capacities-long : length (s .capacities) ≡ capacityCount
   pub kinds-range : (k : ℕ) → kindAt s k < kindCount
   pub effects-range : (i : ℕ) → natAbs (getD (s .effects) i (pos 0)) ≤ effectLimit
-  -- an empty place holds zeros
+  -- an empty place holds zeros (SCOPE 5.2)
   pub empty-zero : (k t j : ℕ) → kindAt s k ≡ 0 → k < caseCount → t < stationCount → j < componentCount → effectAt s k t j ≡ pos 0
   pub capacities-whole : (t : ℕ) → t < stationCount → AllOrNone (capacityAt s t 0) (capacityAt s t 1) (capacityAt s t 2)

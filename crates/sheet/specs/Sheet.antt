@@ -1,4 +1,4 @@
--- 01, 'A sheet and its seven fields': what a sheet holds, seen through accessors, and what each edit makes of it.
+-- SCOPE 2.1 and 5.2: what a sheet holds, seen through accessors, and what each edit makes of it.
 use Prim.Native.Nat.{ℕ, _+_, _*_}
 use mathlib.Core.List.{List, [], _∷_}
 use lib.ListN.{getD, set, replicate}
@@ -11,44 +11,44 @@ use Rattle.envelope.specs.Range.{stationCount, componentCount}
 use Rattle.effects.specs.Effects.{effectCount, place, effectIn, zeros, cleared}
 use Rattle.sheet.specs.declared.Sheet.{Sheet}
 
--- the kind at a place: 0 where it is empty, or no place
+-- the kind at a place: 0 where it is empty, or no place (SCOPE 2.1)
 abbrev pub kindAt : Sheet → ℕ → ℕ
 kindAt s case = getD (s .kinds) case 0
 
--- the effect of a case at a station, on component j: 0 N, 1 My, 2 Mz
+-- the effect of a case at a station, on component j: 0 N, 1 My, 2 Mz (SCOPE 2.4)
 unfoldable pub effectAt : Sheet → ℕ → ℕ → ℕ → ℤ
 effectAt s case station j = effectIn (s .effects) case station j
 
--- three of each station
+-- three of each station (SCOPE 2.5)
 abbrev pub capacityCount : ℕ
 capacityCount = stationCount * componentCount
 
 abbrev pub capacityIn : List ℕ → ℕ → ℕ → ℕ
 capacityIn capacities station j = getD capacities (station * componentCount + j) 0
 
--- a capacity of a station, 0 where it has none
+-- a capacity of a station, 0 where it has none (SCOPE 2.5)
 unfoldable pub capacityAt : Sheet → ℕ → ℕ → ℕ
 capacityAt s station j = capacityIn (s .capacities) station j
 
--- tag 01: empty places and no capacities
+-- tag 01: empty places and no capacities (SCOPE 2.6, 5.2)
 unfoldable pub fresh : Settings → Sheet
 fresh settings = record { settings = settings; kinds = replicate caseCount 0; effects = zeros effectCount; capacities = replicate capacityCount 0 }
 
--- a fresh sheet has method 1, live option 0, zone 0
+-- a fresh sheet has method 1, live option 0, zone 0 (SCOPE 2.6)
 abbrev pub freshSheet : Sheet
 freshSheet = fresh freshSettings
 
--- tags 02 and 04: the place holds this kind, 0 for none, all effects 0
+-- tags 02 and 04: the place holds this kind, 0 for none, all effects 0 (SCOPE 5.2)
 unfoldable pub withKind : Sheet → ℕ → ℕ → Sheet
 withKind s case kind =
     record { settings = s .settings; kinds = set (s .kinds) case kind; effects = cleared (s .effects) case stationCount; capacities = s .capacities }
 
--- tag 03: that case's three effects there
+-- tag 03: that case's three effects there (SCOPE 5.2)
 unfoldable pub withEffects : Sheet → ℕ → ℕ → ℤ → ℤ → ℤ → Sheet
 withEffects s case station n y z =
     record { settings = s .settings; kinds = s .kinds; effects = sets (s .effects) (place case station) (n ∷ y ∷ z ∷ []); capacities = s .capacities }
 
--- tag 05: the station's three capacities
+-- tag 05: the station's three capacities (SCOPE 5.2)
 unfoldable pub withCapacities : Sheet → ℕ → ℕ → ℕ → ℕ → Sheet
 withCapacities s station n y z =
     record { settings = s .settings; kinds = s .kinds; effects = s .effects; capacities = sets (s .capacities) (station * componentCount) (n ∷ y ∷ z ∷ []) }

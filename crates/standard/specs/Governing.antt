@@ -1,4 +1,4 @@
--- What an extreme and a utilisation are to be (the third demand): no admissible combination is beyond the number, and the
+-- SCOPE 4.6 and 10.3: what an extreme and a utilisation are to be. No admissible combination is beyond the number, and the
 -- combination named is admissible and gives exactly it.
 use Prim.Native.Nat.{ℕ, _≤_}
 use mathlib.Core.Path.{_≡_}
@@ -11,7 +11,7 @@ use Rattle.standard.specs.declared.Settings.{Settings}
 use Rattle.standard.specs.declared.Capacities.{Capacities}
 use Rattle.standard.specs.Combination.{Combination, Admissible, factoredEffect, utilisationOf, denominatorOf}
 
--- c is admissible and gives the number
+-- c is admissible and gives the number (SCOPE 10.3)
 pub record Reaches (s : Settings) (kind : ℕ → ℕ) (effect : ℕ → ℤ) (c : Combination) (value : ℤ) : Type 0 where
   pub admissible : Admissible s kind c
   pub exact : factoredEffect s kind c effect ≡ value
@@ -24,12 +24,12 @@ pub record Minimum (s : Settings) (kind : ℕ → ℕ) (effect : ℕ → ℤ) (c
   pub none-below : (d : Combination) → Admissible s kind d → value ≤ℤ factoredEffect s kind d effect
   pub named : Reaches s kind effect c value
 
--- Utilisations at one station have one denominator, so they are compared by their numerators.
+-- Utilisations at one station have one denominator, so they are compared by their numerators (SCOPE 4.5).
 pub record Utilisation (s : Settings) (kind : ℕ → ℕ) (effect : ℕ → ℕ → ℤ) (p : Capacities) (c : Combination)
     (numerator denominator : ℕ) (pass : Bool) : Type 0 where
   pub none-above : (d : Combination) → Admissible s kind d → utilisationOf s kind effect p d ≤ numerator
   pub admissible : Admissible s kind c
   pub exact : utilisationOf s kind effect p c ≡ numerator
   pub over : denominatorOf p ≡ denominator
-  -- pass exactly when no admissible combination has a utilisation above one
+  -- pass exactly when no admissible combination has a utilisation above one (SCOPE 10.3)
   pub verdict : T pass ↔ ((d : Combination) → Admissible s kind d → utilisationOf s kind effect p d ≤ denominatorOf p)

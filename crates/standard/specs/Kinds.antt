@@ -1,4 +1,4 @@
--- Kinds of load, and how the cases of a kind may act.
+-- SCOPE 2.3 and 4.2: kinds of load, and how the cases of a kind may act.
 use Prim.Native.Nat.{ℕ}
 use mathlib.Core.Bool.{Bool, true, false}
 use mathlib.Core.List.{List, [], _∷_}
@@ -7,8 +7,7 @@ use Rattle.standard.specs.declared.Class.{Class}
 use Rattle.standard.specs.declared.Class.the-variants.{Always, Subset, OneOf, Unknown}
 
 -- By kind, from 0, an empty place: D, F, Hp, Hv, L, Lr, S, R, W, E, Fa.
--- 01, 'Admissible combinations': all D, F and Hp cases act; any subset of Hv and of L;
--- at most one among Lr, S and R together; at most one W, one E, one Fa.
+-- All D, F and Hp cases act; any subset of Hv and of L; at most one among Lr, S and R together; at most one W, one E, one Fa (SCOPE 4.2).
 abbrev pub classes : List Class
 classes =
     Unknown
@@ -21,20 +20,20 @@ classes =
 unfoldable pub classOf : ℕ → Class
 classOf kind = getD classes kind Unknown
 
--- a number that is no kind has no class
+-- a number that is no kind has no class; as a kind it is refused (SCOPE 7.1)
 abbrev pub unknown : Class → Bool
 unknown Always = false
 unknown Subset = false
 unknown (OneOf g) = false
 unknown Unknown = true
 
--- the numbers of groups and of kinds, the empty place among them
+-- the number of groups (SCOPE 4.2), and of kinds with the empty place (SCOPE 2.3)
 abbrev pub groupCount : ℕ
 groupCount = 4
 
 abbrev pub kindCount : ℕ
 kindCount = 12
 
--- Hp, whose cases may take the low factor
+-- Hp, whose cases may take the low factor (SCOPE 2.3, 4.3)
 abbrev pub permanentEarth : ℕ
 permanentEarth = 3

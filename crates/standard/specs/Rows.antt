@@ -1,4 +1,4 @@
--- 01, 'Lines of the standard': the factor of a kind in a row, in thousandths, and the rows that are open. 0 is no factor.
+-- SCOPE 3: the factor of a kind in a row, in thousandths, and the rows that are open. 0 is no factor.
 use Prim.Native.Nat.{ℕ, _-_}
 use mathlib.Core.Bool.{Bool, false, cond, _&&_, _||_}
 use mathlib.Core.List.{List, [], _∷_, _++_, map}
@@ -6,23 +6,23 @@ use lib.Dec.{eqb, leb}
 use lib.ListN.{getD, replicate}
 use Rattle.standard.specs.declared.Settings.{Settings}
 
--- a sheet's settings; those of a fresh sheet are method 1, live option 0, zone 0
+-- a sheet's settings (SCOPE 2.2); those of a fresh sheet are method 1, live option 0, zone 0 (SCOPE 2.6)
 abbrev pub settingsOf : (method live zone : ℕ) → Settings
 settingsOf method live zone = record { method = method; live = live; zone = zone }
 
 abbrev pub freshSettings : Settings
 freshSettings = settingsOf 1 0 0
 
--- the column L: a number, or f, which is 1000, or 500 with live option 1
+-- the column L: a number, or f, which is 1000, or 500 with live option 1 (SCOPE 3.1, 3.5)
 pub data Live : Type 0 where
   num : ℕ → Live
   f : Live
 
--- the column roof: a factor for Lr, S and R, or one for snow only
+-- the column roof: a factor for Lr, S and R, or one for snow only (SCOPE 3.1)
 pub data Roof : Type 0 where
   any snow : ℕ → Roof
 
--- a line of the table; only a flood row has a factor for Fa
+-- a line of the table (SCOPE 3.1); only a flood row has a factor for Fa (SCOPE 3.4)
 pub record Line : Type 0 where
   pub dead : ℕ
   pub fluid : ℕ
@@ -39,7 +39,7 @@ line d fl l r w e h = record { dead = d; fluid = fl; live = l; roof = r; wind = 
 abbrev pub blank : Line
 blank = line 0 0 (num 0) (any 0) 0 0 0
 
--- columns D, F, L, roof, W, E, H: rows 1 to 8
+-- columns D, F, L, roof, W, E, H: rows 1 to 8 (SCOPE 3.2)
 abbrev pub strength : List Line
 strength =
     line 1400 1400 (num 0) (any 0) 0 0 0
@@ -52,7 +52,7 @@ strength =
     ∷ line 900 900 (num 0) (any 0) 0 1000 1600
     ∷ []
 
--- rows 21 to 30
+-- rows 21 to 30 (SCOPE 3.3)
 abbrev pub allowable : List Line
 allowable =
     line 1000 1000 (num 0) (any 0) 0 0 0
@@ -67,38 +67,38 @@ allowable =
     ∷ line 600 600 (num 0) (any 0) 0 700 1000
     ∷ []
 
--- by their numbers
+-- by their numbers (SCOPE 3.2, 3.3)
 abbrev pub strengthRow : ℕ → Line
 strengthRow row = getD strength (row - 1) blank
 
 abbrev pub allowableRow : ℕ → Line
 allowableRow row = getD allowable (row - 21) blank
 
--- a line with other factors for W, E and Fa
+-- a line with other factors for W, E and Fa (SCOPE 3.4)
 abbrev pub changed : ℕ → ℕ → ℕ → Line → Line
 changed w e fa l =
     record { dead = l .dead; fluid = l .fluid; live = l .live; roof = l .roof; wind = w; quake = e; earth = l .earth; flood = fa }
 
--- with Fa and no E
+-- with Fa and no E (SCOPE 3.4)
 abbrev pub flooded : ℕ → Line → Line
 flooded fa l = changed (l .wind) 0 fa l
 
--- with W and Fa
+-- with W and Fa (SCOPE 3.4)
 abbrev pub floodedWind : ℕ → ℕ → Line → Line
 floodedWind w fa l = changed w 0 fa l
 
--- Rows 9 and 10 are rows 5 and 7 with Fa 2000, rows 11 and 12 the same rows with W 500 and Fa 1000.
+-- Rows 9 and 10 are rows 5 and 7 with Fa 2000, rows 11 and 12 the same rows with W 500 and Fa 1000 (SCOPE 3.4).
 abbrev pub strengthFlood : List Line
 strengthFlood =
     flooded 2000 (strengthRow 5) ∷ flooded 2000 (strengthRow 7)
     ∷ floodedWind 500 1000 (strengthRow 5) ∷ floodedWind 500 1000 (strengthRow 7)
     ∷ []
 
--- Rows 31 to 35 are rows 25 to 29 with Fa 1500 and E 0, rows 36 to 40 the same rows with Fa 750.
+-- Rows 31 to 35 are rows 25 to 29 with Fa 1500 and E 0, rows 36 to 40 the same rows with Fa 750 (SCOPE 3.4).
 abbrev pub allowableFlood : ℕ → List Line
 allowableFlood fa = map (λ row. flooded fa (allowableRow row)) (25 ∷ 26 ∷ 27 ∷ 28 ∷ 29 ∷ [])
 
--- rows 0 to 40; a number that no row has is blank
+-- rows 0 to 40; a number that no row has is blank (SCOPE 3.2 to 3.4)
 abbrev pub lines : List Line
 lines =
     blank
@@ -107,6 +107,7 @@ lines =
 abbrev pub rowCount : ℕ
 rowCount = 41
 
+-- what a column gives L (SCOPE 3.5), Lr and R, and S (SCOPE 3.1)
 abbrev pub liveFactor : Bool → Live → ℕ
 liveFactor halved (num x) = x
 liveFactor halved f = cond halved 500 1000
@@ -119,7 +120,7 @@ abbrev pub snowFactor : Roof → ℕ
 snowFactor (any x) = x
 snowFactor (snow x) = x
 
--- the factors of a line by kind: none, D, F, Hp, Hv, L, Lr, S, R, W, E, Fa
+-- the factors of a line by kind: none, D, F, Hp, Hv, L, Lr, S, R, W, E, Fa (SCOPE 3.1)
 abbrev pub columns : Bool → Line → List ℕ
 columns halved l =
     0
@@ -130,11 +131,11 @@ columns halved l =
     ∷ l .wind ∷ l .quake ∷ l .flood
     ∷ []
 
--- the factor of a kind in a row
+-- the factor of a kind in a row (SCOPE 3.1)
 unfoldable pub factorOf : Settings → ℕ → ℕ → ℕ
 factorOf s row kind = getD (columns (eqb (s .live) 1) (getD lines row blank)) kind 0
 
--- 01, 'Admissible combinations': the low factor, 900 in method 1 and 600 in method 2
+-- the low factor, 900 in method 1 and 600 in method 2 (SCOPE 4.3)
 unfoldable pub lowOf : Settings → ℕ
 lowOf s = cond (eqb (s .method) 1) 900 600
 
@@ -146,15 +147,15 @@ pub record Span : Type 0 where
 abbrev pub rowsTo : ℕ → ℕ → Span
 rowsTo a b = record { first = a; last = b }
 
--- method 1 opens rows 1 to 8, method 2 rows 21 to 30
+-- method 1 opens rows 1 to 8, method 2 rows 21 to 30 (SCOPE 3.7)
 unfoldable pub plainRows : Settings → List Span
 plainRows s = cond (eqb (s .method) 1) (rowsTo 1 8 ∷ []) (cond (eqb (s .method) 2) (rowsTo 21 30 ∷ []) [])
 
--- some rows in zone 1, others in zone 2
+-- some rows in zone 1, others in zone 2 (SCOPE 3.7)
 abbrev pub byZone : Settings → Span → Span → List Span
 byZone s one two = cond (eqb (s .zone) 1) (one ∷ []) (cond (eqb (s .zone) 2) (two ∷ []) [])
 
--- flood rows are further rows; the plain ones remain
+-- flood rows are further rows; the plain ones remain (SCOPE 3.7)
 unfoldable pub floodRows : Settings → List Span
 floodRows s =
     cond (eqb (s .method) 1) (byZone s (rowsTo 9 10) (rowsTo 11 12)) (cond (eqb (s .method) 2) (byZone s (rowsTo 31 35) (rowsTo 36 40)) [])
@@ -162,6 +163,7 @@ floodRows s =
 unfoldable pub openRows : Settings → List Span
 openRows s = plainRows s ++ floodRows s
 
+-- a row is open where one of the spans has it (SCOPE 3.7)
 abbrev pub within : Span → ℕ → Bool
 within p row = leb (p .first) row && leb row (p .last)
 

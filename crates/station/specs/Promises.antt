@@ -1,5 +1,5 @@
--- What a look at a station promises, in the standard's words, beside the equation to `Envelope`: the combinations that its answer
--- names are those of the rows and sets in it.
+-- SCOPE 4.6: what a look at a station promises, in the standard's words, beside the equation to `Envelope`: the combinations that its
+-- answer names are those of the rows and sets in it.
 use Prim.Native.Nat.{ℕ}
 use mathlib.Core.Path.{_≡_}
 use mathlib.Core.Logic.{_⊎_}
@@ -12,7 +12,7 @@ use Rattle.envelope.specs.declared.Extreme.{Extreme}
 use Rattle.envelope.specs.declared.Extremes.{Extremes}
 use Rattle.envelope.specs.declared.Utilised.{Utilised}
 
--- a method that has rows
+-- a method that has rows (SCOPE 2.2)
 abbrev pub KnownMethod : Settings → Type 0
 KnownMethod s = (s .method ≡ 1) ⊎ (s .method ≡ 2)
 

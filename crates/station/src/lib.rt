@@ -81,7 +81,7 @@ fn peak_of(s: Settings, places: &[u64], effects: &[i16], p: Capacities) -> Peak
     let mut s2 = [0u64; sums::SUMS];
     let mut s3 = [0u64; sums::SUMS];
     let w = pattern_weights(p, 0);
-    sums::four_sums_of(&mut s0, &mut s1, &mut s2, &mut s3, places, effects, w);
+    directions::four_sums_of(&mut s0, &mut s1, &mut s2, &mut s3, places, effects, w);
     governing::highest(s, &s0, &s1, &s2, &s3)
 }
 

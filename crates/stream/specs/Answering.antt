@@ -23,11 +23,11 @@ use Rattle.stream.specs.declared.Progress.{Progress}
 unfoldable pub isNext : Bool → ℕ → List ℕ → Bool
 isNext ended room f = (ltb 0 (length f) && (ended || readyOf f)) && leb answerRoom room
 
--- another may be answered after it: it is answered, and not with a 3
+-- another may be answered after it: it is answered, and not with a 3 (SCOPE 9.4)
 unfoldable pub goesOn : Bool → ℕ → List ℕ → Sheet → Bool
 goesOn ended room f s = isNext ended room f && not (lastOf (readField f answerRoom s .answer))
 
--- of the fields at hand, those that are answered now; none after a 3
+-- of the fields at hand, those that are answered now; none after a 3 (SCOPE 9.4)
 unfoldable pub answeredOf : Bool → ℕ → List (List ℕ) → Sheet → List (List ℕ)
 answeredOf ended room [] s = []
 answeredOf ended room (f ∷ fs) s =
@@ -38,7 +38,7 @@ answeredOf ended room (f ∷ fs) s =
 abbrev pub nextOf : Bool → ℕ → List ℕ → List (List ℕ)
 nextOf ended room f = cond (isNext ended room f) (f ∷ []) []
 
--- one of the answers is a 3
+-- one of the answers is a 3 (SCOPE 9.4)
 unfoldable pub anyLast : List Answer → Bool
 anyLast [] = false
 anyLast (a ∷ rest) = lastOf a || anyLast rest

@@ -1,15 +1,12 @@
 ghost use mathlib.Core.Path.{_≡_};
-ghost use Prim.Native.Nat.{ℕ, _+_, _*_, _<_, _≤_, _^_};
-ghost use lib.ListN.{length, getD};
-ghost use lib.IntN.{ℤ, pos, negℤ, _+ℤ_, _*ℤ_, natAbs};
+ghost use Prim.Native.Nat.{_<_, _^_};
+ghost use lib.ListN.{length};
 ghost use Rattle.integers.specs.Sets.{has};
 ghost use Rattle.standard.specs.Combination.{caseCount};
 ghost use Rattle.standard.specs.Kinds.{classOf, kindCount};
-ghost use Rattle.envelope.specs.Range.{kindOf, effectOf, effectLimit, weightMost, KindsInRange, EffectsInRange, WeightsInRange};
+ghost use Rattle.envelope.specs.Range.{kindOf, effectOf, KindsInRange, EffectsInRange};
 ghost use Rattle.envelope.specs.Places.{Places, PlacesInRange};
 ghost use Rattle.sums.specs.Sums.{alone, sidesWith, SidesRoom, SidesInRange, sidesIn, sidesPut, sumCount, SumsOf};
-ghost use Rattle.sums.specs.Four.{directionsOf, directed, fourWith, FourRoom, FourInRange, fourIn, FourOf};
-use envelope::Weights;
 use standard::CASES;
 use standard::Class;
 use standard::KINDS;
@@ -23,22 +20,6 @@ pub type Sums = [u64; SUMS];
 pub struct Sides {
     pub above: i64,
     pub below: i64,
-}
-
-// The effect of a case in four directions.
-pub struct Directions {
-    pub first: i64,
-    pub second: i64,
-    pub third: i64,
-    pub fourth: i64,
-}
-
-// What a kind's cases make in each.
-pub struct FourSides {
-    pub first: Sides,
-    pub second: Sides,
-    pub third: Sides,
-    pub fourth: Sides,
 }
 
 // The cases of each kind as sets.
@@ -61,7 +42,7 @@ pub fn places_of(kinds: &[u8]) -> [u64; KINDS]
 }
 
 // Whether at most one case of the kind acts, so that its cases are compared; others are added up.
-fn acts_alone(kind: usize) -> bool
+pub fn acts_alone(kind: usize) -> bool
     ensures { λ r. ⌜ r ≡ alone (classOf kind) ⌝ }
 {
     let q = standard::class_of(kind);
@@ -74,7 +55,7 @@ fn acts_alone(kind: usize) -> bool
 }
 
 // One case more.
-fn with_effect(compared: bool, s: Sides, x: i64) -> Sides
+pub fn with_effect(compared: bool, s: Sides, x: i64) -> Sides
     requires { ⌜ SidesRoom s x ⌝ }
     ensures { λ r. ⌜ r ≡ sidesWith compared s x ⌝ }
 {
@@ -106,7 +87,7 @@ fn sides_of(compared: bool, set: u64, effects: &[i16], component: usize) -> Side
 }
 
 // A kind's two places in the sums, which have no signs.
-fn put_sides(sums: &mut [u64], kind: usize, x: Sides)
+pub fn put_sides(sums: &mut [u64], kind: usize, x: Sides)
     requires { ⌜ (length (now sums) ≡ sumCount) × (kind < kindCount) × SidesInRange x ⌝ }
     ensures { λ _. ⌜ now (sums .exit) ≡ sidesPut (now (sums .entry)) kind x ⌝ }
 {
@@ -128,115 +109,4 @@ pub fn sums_of(places: &[u64], effects: &[i16], component: usize) -> Sums
         kind += 1;
     }
     sums
-}
-
-// A weighed effect.
-fn weighed_one(effects: &[i16], at: usize, w: i64) -> i64
-    requires { ⌜ (at < length (now effects)) × (natAbs (getD (now effects) at (pos 0)) ≤ effectLimit) × (natAbs w ≤ weightMost) ⌝ }
-    ensures { λ r. ⌜ r ≡ w *ℤ getD (now (effects .entry)) at (pos 0) ⌝ }
-{
-    let x = integers::widen(effects[at]);
-    integers::scaled(0, w, x)
-}
-
-// The four directions of a case's weighed effects: their signs are + + +, - + +, + - + and - - +.
-fn four_signs(a: i64, b: i64, c: i64) -> Directions
-    requires { ⌜ natAbs a + natAbs b + natAbs c < 2 ^ 63 ⌝ }
-    ensures { λ r. ⌜ r ≡ directionsOf a b c ⌝ }
-{
-    let m = integers::negated(a);
-    let over = integers::added(b, c);
-    let under = integers::added(integers::negated(b), c);
-    Directions {
-        first: integers::added(a, over),
-        second: integers::added(m, over),
-        third: integers::added(a, under),
-        fourth: integers::added(m, under),
-    }
-}
-
-// Those of case k.
-fn case_directions(effects: &[i16], k: usize, w: Weights) -> Directions
-    requires { ⌜ (k < caseCount) × EffectsInRange (now effects) × WeightsInRange w ⌝ }
-    ensures { λ r. ⌜ r ≡ directed w (effectOf (now (effects .entry))) k ⌝ }
-{
-    let at = k * 3;
-    let a = weighed_one(effects, at, w.n);
-    let b = weighed_one(effects, at + 1, w.y);
-    let c = weighed_one(effects, at + 2, w.z);
-    four_signs(a, b, c)
-}
-
-// One case more, in the four directions.
-fn with_directions(compared: bool, f: FourSides, d: Directions) -> FourSides
-    requires { ⌜ FourRoom f d ⌝ }
-    ensures { λ r. ⌜ r ≡ fourWith compared f d ⌝ }
-{
-    FourSides {
-        first: with_effect(compared, f.first, d.first),
-        second: with_effect(compared, f.second, d.second),
-        third: with_effect(compared, f.third, d.third),
-        fourth: with_effect(compared, f.fourth, d.fourth),
-    }
-}
-
-// What the cases of a set make in the four directions.
-fn four_sides_of(compared: bool, set: u64, effects: &[i16], w: Weights) -> FourSides
-    requires { ⌜ (set < 2 ^ caseCount) × EffectsInRange (now effects) × WeightsInRange w ⌝ }
-    ensures { λ r. ⌜ r ≡ fourIn compared (has set) (directed w (effectOf (now (effects .entry)))) caseCount ⌝ }
-{
-    let zero = Sides { above: 0, below: 0 };
-    let mut f = FourSides {
-        first: zero,
-        second: zero,
-        third: zero,
-        fourth: zero,
-    };
-    let mut rest = set;
-    while 0 < rest {
-        let k = integers::lowest(rest);
-        let d = case_directions(effects, k, w);
-        f = with_directions(compared, f, d);
-        rest = integers::without_lowest(rest);
-    }
-    f
-}
-
-// A kind's places in the sums of the four directions.
-fn put_four(
-    s0: &mut [u64],
-    s1: &mut [u64],
-    s2: &mut [u64],
-    s3: &mut [u64],
-    kind: usize,
-    f: FourSides,
-)
-    requires { ⌜ (length (now s0) ≡ sumCount) × (length (now s1) ≡ sumCount) × (length (now s2) ≡ sumCount) × (length (now s3) ≡ sumCount) × (kind < kindCount) × FourInRange f ⌝ }
-    ensures { λ _. ⌜ (now (s0 .exit) ≡ sidesPut (now (s0 .entry)) kind (f .first)) × (now (s1 .exit) ≡ sidesPut (now (s1 .entry)) kind (f .second)) × (now (s2 .exit) ≡ sidesPut (now (s2 .entry)) kind (f .third)) × (now (s3 .exit) ≡ sidesPut (now (s3 .entry)) kind (f .fourth)) ⌝ }
-{
-    put_sides(s0, kind, f.first);
-    put_sides(s1, kind, f.second);
-    put_sides(s2, kind, f.third);
-    put_sides(s3, kind, f.fourth);
-}
-
-// One pass over the cases: the sums of each kind in the four directions, for both signs of each.
-pub fn four_sums_of(
-    s0: &mut [u64],
-    s1: &mut [u64],
-    s2: &mut [u64],
-    s3: &mut [u64],
-    places: &[u64],
-    effects: &[i16],
-    w: Weights,
-)
-    requires { ⌜ (length (now s0) ≡ sumCount) × (length (now s1) ≡ sumCount) × (length (now s2) ≡ sumCount) × (length (now s3) ≡ sumCount) × PlacesInRange (now places) × EffectsInRange (now effects) × WeightsInRange w ⌝ }
-    ensures { λ _. ⌜ FourOf (now (s0 .exit)) (now (s1 .exit)) (now (s2 .exit)) (now (s3 .exit)) (now (places .entry)) (directed w (effectOf (now (effects .entry)))) kindCount ⌝ }
-{
-    let mut kind: usize = 1;
-    while kind < KINDS {
-        let f = four_sides_of(acts_alone(kind), places[kind], effects, w);
-        put_four(s0, s1, s2, s3, kind, f);
-        kind += 1;
-    }
 }

@@ -7,7 +7,7 @@ ghost use Rattle.standard.specs.Columns.{rowTable};
 ghost use Rattle.optimum.specs.Row.{lowerOf};
 ghost use Rattle.sums.specs.Sums.{heldAt, SumsInRange};
 ghost use Rattle.terms.specs.Value.{factorMost, Gained, termsOf, TermsInRange, ownOf, valueOf};
-use standard::RowTable;
+use rows::RowTable;
 use standard::Settings;
 
 // What the factors of a row multiply: the cases of D, of F, of Hp and Hv, of Hp at the low factor, of L, then the greatest
@@ -68,7 +68,7 @@ fn with_term(total: i64, table: &RowTable, s: Settings, row: usize, kind: usize,
     requires { ⌜ (row < rowCount) × (0 < kind) × (kind < kindCount) × (now table ≡ rowTable) × (natAbs total + factorMost * natAbs x < 2 ^ 63) ⌝ }
     ensures { λ r. ⌜ Gained r total (factorOf s row kind) x ⌝ }
 {
-    let f = standard::factor(table, s, row, kind);
+    let f = rows::factor(table, s, row, kind);
     integers::scaled(total, integers::signed(f as u64), x)
 }
 
@@ -83,7 +83,7 @@ fn with_lowered(total: i64, table: &RowTable, s: Settings, row: usize, x: i64) -
     requires { ⌜ (row < rowCount) × (now table ≡ rowTable) × (natAbs total + factorMost * natAbs x < 2 ^ 63) ⌝ }
     ensures { λ r. ⌜ Gained r total (lowerOf s row 3) x ⌝ }
 {
-    let f = standard::factor(table, s, row, 3);
+    let f = rows::factor(table, s, row, 3);
     let least = lower(standard::low_factor(s), f);
     integers::scaled(total, integers::signed(least as u64), x)
 }

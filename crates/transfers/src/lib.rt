@@ -15,33 +15,73 @@ pub fn remaining(more: bool, left: u64) -> u64
     if more { left - 1 } else { 0 }
 }
 
-// How many bytes a call has moved so far, and whether another call is to follow.
-pub struct Moved {
-    pub count: usize,
-    pub more: bool,
+// In nanoseconds, how long to wait where a call cannot go on for now: at first, and from where on the pause grows no longer.
+pub const FIRST_PAUSE: u32 = 50_000;
+
+const LONG_PAUSE: u32 = 4_000_000;
+
+fn longer(pause: u32) -> u32 {
+    if pause < LONG_PAUSE { pause * 2 } else { pause }
 }
 
-// Writes some of the bytes that are left. An interrupted call is made again.
-fn write_some(bytes: &[u8], count: usize) -> Moved
+// Whether a call that moved nothing is made again, and the pause where the next one cannot go on either.
+struct Retry {
+    again: bool,
+    pause: u32,
+}
+
+// A call that cannot go on for now is made again after a pause, an interrupted one at once. Any other has failed, which standard error
+// is told.
+fn moved_nothing(call: &[u8], moved: isize, pause: u32) -> Retry {
+    let error = os::errno();
+    if (moved == 0) | (error == libc::EAGAIN) {
+        pauses::wait(pause);
+        return Retry {
+            again: true,
+            pause: longer(pause),
+        };
+    }
+    if error == libc::EINTR {
+        return Retry { again: true, pause };
+    }
+    os::fail(call);
+    Retry {
+        again: false,
+        pause,
+    }
+}
+
+// How many bytes are written so far, whether another call is to follow, and the pause where that one cannot go on.
+struct Moved {
+    count: usize,
+    more: bool,
+    pause: u32,
+}
+
+// Writes some of the bytes that are left.
+fn write_some(bytes: &[u8], count: usize, pause: u32) -> Moved
     requires { ⌜ count ≤ length (now bytes) ⌝ }
     ensures { λ r. ⌜ r .count ≤ length (now (bytes .entry)) ⌝ }
 {
     let put = libc::write(1, &bytes[count..]);
-    if put < 0 {
+    if put <= 0 {
+        let r = moved_nothing(b"frames: write", put, pause);
         return Moved {
             count,
-            more: os::errno() == libc::EINTR,
+            more: r.again,
+            pause: r.pause,
         };
     }
     let n = io::count(put, &bytes[count..]);
     let end = count + n;
     Moved {
         count: end,
-        more: (0 < n) & (end < bytes.len()),
+        more: end < bytes.len(),
+        pause: FIRST_PAUSE,
     }
 }
 
-// How many bytes were handed on, and how many of them are written: fewer where the output is closed or full.
+// How many bytes were handed on, and how many of them are written: fewer where a write failed.
 pub struct Sent {
     pub given: usize,
     pub taken: usize,
@@ -57,11 +97,13 @@ pub fn write_all(bytes: &[u8]) -> Sent
     let mut m = Moved {
         count: 0,
         more: true,
+        pause: FIRST_PAUSE,
     };
     let mut left = u64::MAX;
     while left > 0 {
         let count = m.count;
-        m = write_some(bytes, count);
+        let pause = m.pause;
+        m = write_some(bytes, count, pause);
         left = remaining(m.more, left);
     }
     Sent {
@@ -70,28 +112,44 @@ pub fn write_all(bytes: &[u8]) -> Sent
     }
 }
 
-// Reads more bytes after those held, unless a field can be read already. No more follow the end of input or a failed call.
-pub fn read_some(input: &mut [u8], held: usize) -> Moved
+// How many bytes of input are at hand, whether the input is at its end, whether the read failed, and the pause where the next one cannot
+// go on.
+pub struct Read {
+    pub count: usize,
+    pub ended: bool,
+    pub failed: bool,
+    pub pause: u32,
+}
+
+// Reads more bytes after those held, unless a field can be read already.
+pub fn read_some(input: &mut [u8], held: usize, pause: u32) -> Read
     requires { ⌜ held ≤ length (now input) ⌝ }
-    ensures { λ r. ⌜ Filled held (r .count) (r .more) (now (input .entry)) (now (input .exit)) ⌝ }
+    ensures { λ r. ⌜ Filled held (r .count) (r .ended) (r .failed) (now (input .entry)) (now (input .exit)) ⌝ }
 {
     if headers::is_ready(&input[0..held]) {
-        return Moved {
+        return Read {
             count: held,
-            more: true,
+            ended: false,
+            failed: false,
+            pause,
         };
     }
     let got = libc::read(0, &mut input[held..]);
     if got < 0 {
-        return Moved {
+        let r = moved_nothing(b"frames: read", got, pause);
+        return Read {
             count: held,
-            more: os::errno() == libc::EINTR,
+            ended: false,
+            failed: !r.again,
+            pause: r.pause,
         };
     }
     let n = io::count(got, &input[held..]);
-    Moved {
+    Read {
         count: held + n,
-        more: 0 < n,
+        ended: n == 0,
+        failed: false,
+        pause: FIRST_PAUSE,
     }
 }
 

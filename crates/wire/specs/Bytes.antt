@@ -1,4 +1,4 @@
--- 01, 'A sheet and its seven fields': bytes of numbers. Multi-byte numbers have the high byte first, signed ones are two's complement.
+-- SCOPE 5.1: bytes of numbers. Multi-byte numbers have the high byte first, signed ones are two's complement.
 use Prim.Native.Nat.{ℕ, _+_, _*_, _/_, _%_}
 use mathlib.Core.Path.{_≡_}
 use mathlib.Core.List.{List, [], _∷_, _++_}
@@ -36,10 +36,10 @@ bytes4 n = n / 16777216 % 256 ∷ n / 65536 % 256 ∷ n / 256 % 256 ∷ n % 256 
 unfoldable pub bytes8 : ℕ → List ℕ
 bytes8 n = bytes4 (n / 4294967296) ++ bytes4 (n % 4294967296)
 
--- bytes written over the front of an output: later ones stay
+-- bytes written over the front of an output: later ones stay (SCOPE 5.3, 8.2)
 unfoldable pub over : List ℕ → List ℕ → List ℕ
 over w o = w ++ drop (length w) o
 
--- w is put into o at i: where it ends, and the output after it
+-- w is put into o at i: where it ends, and the output after it (SCOPE 5.3)
 abbrev pub Put : List ℕ → ℕ → List ℕ → ℕ → List ℕ → Type 0
 Put o i w to out = (to ≡ i + length w) × (out ≡ sets o i w)

@@ -22,45 +22,6 @@ loop-holds : tie.Need-loop-holds Inv-loop μ-loop
 unfolding cleared
 loop-holds c = (search needs, refl)
 
-mul-at : tie.Need-mul-at Inv-loop μ-loop
-mul-at c = search needs
-
-mul-at-2 : tie.Need-mul-at-2 Inv-loop μ-loop
-mul-at-2 c = search needs
-
-add-at : tie.Need-add-at Inv-loop μ-loop
-add-at c = search needs
-
-mul-effects : tie.Need-mul-effects Inv-loop μ-loop
-mul-effects c = search needs
-
-element-set-of-effects : tie.Need-element-set-of-effects Inv-loop μ-loop
-element-set-of-effects c = search needs
-
-add-effects : tie.Need-add-effects Inv-loop μ-loop
-add-effects c = search needs
-
-mul-effects-2 : tie.Need-mul-effects-2 Inv-loop μ-loop
-mul-effects-2 c = search needs
-
-element-set-of-effects-2 : tie.Need-element-set-of-effects-2 Inv-loop μ-loop
-element-set-of-effects-2 c = search needs
-
-add-effects-2 : tie.Need-add-effects-2 Inv-loop μ-loop
-add-effects-2 c = search needs
-
-mul-effects-3 : tie.Need-mul-effects-3 Inv-loop μ-loop
-mul-effects-3 c = search needs
-
-element-set-of-effects-3 : tie.Need-element-set-of-effects-3 Inv-loop μ-loop
-element-set-of-effects-3 c = search needs
-
-add-t : tie.Need-add-t Inv-loop μ-loop
-add-t c = search needs
-
-loop-less : tie.Need-loop-less Inv-loop μ-loop
-loop-less c = search needs
-
 loop-again : tie.Need-loop-again Inv-loop μ-loop
 unfolding cleared
 loop-again c =
@@ -82,18 +43,18 @@ clear-case-spec =
     Inv-loop
     μ-loop
     loop-holds
-    mul-at
-    mul-at-2
-    add-at
-    mul-effects
-    element-set-of-effects
-    add-effects
-    mul-effects-2
-    element-set-of-effects-2
-    add-effects-2
-    mul-effects-3
-    element-set-of-effects-3
-    add-t
-    loop-less
+    (λ c. search needs)
+    (λ c. search needs)
+    (λ c. search needs)
+    (λ c. search needs)
+    (λ c. search needs)
+    (λ c. search needs)
+    (λ c. search needs)
+    (λ c. search needs)
+    (λ c. search needs)
+    (λ c. search needs)
+    (λ c. search needs)
+    (λ c. search needs)
+    (λ c. search needs)
     loop-again
     returns)

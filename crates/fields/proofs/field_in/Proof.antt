@@ -8,21 +8,18 @@ use borrow.Author.Needs.{needs}
 use Rattle.fields.proofs.field_in.Statement.{statement}
 use Rattle.fields.proofs.field_in.Tie as tie
 
-due-header-requires : tie.Need-due-header-requires
-due-header-requires c κs = search needs
-
-run-in-requires : tie.Need-run-in-requires
-run-in-requires c κs =
+run-requires : tie.Need-run-requires
+run-requires c κs =
     let d = c .before .before in
     (search needs, known-tag _ _ (sym (d .due-header .ensures) ∙ c .before .if1 .taken))
 
 returns : tie.Need-returns
 unfolding fieldOf
-returns c = rw (eq-eqb _ _ (sym (c .before .before .before .due-header .ensures) ∙ c .before .before .if1 .taken)) (c .run-in .ensures)
+returns c = rw (eq-eqb _ _ (sym (c .before .before .before .due-header .ensures) ∙ c .before .before .if1 .taken)) (c .run .ensures)
 
 returns-2 : tie.Need-returns-2
 unfolding fieldOf
 returns-2 c = rw (← c .before .due-header .ensures, ne-eqb _ _ (c .if1 .left))
 
 pub field-in-spec : {M : Type 1} → statement M
-field-in-spec = tie.close (tie.spec due-header-requires run-in-requires returns returns-2)
+field-in-spec = tie.close (tie.spec (λ c κs. search needs) run-requires returns returns-2)

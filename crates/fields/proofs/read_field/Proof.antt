@@ -4,17 +4,8 @@ use borrow.Author.Needs.{needs}
 use Rattle.fields.proofs.read_field.Statement.{statement}
 use Rattle.fields.proofs.read_field.Tie as tie
 
-rest-requires : tie.Need-rest-requires
-rest-requires c κs = search needs
-
 read-in-requires : tie.Need-read-in-requires
 read-in-requires c κs = rw (c .before .before .rest .ensures) (c .before .before .before .before .before .before .pre)
-
-with-effects-requires : tie.Need-with-effects-requires
-with-effects-requires c κs = search needs
-
-same-length : tie.Need-same-length
-same-length c = search needs
 
 returns : tie.Need-returns
 returns c =
@@ -23,4 +14,4 @@ returns c =
 
 pub read-field-spec : {M : Type 1} → statement M
 read-field-spec =
-    tie.close (tie.spec rest-requires read-in-requires with-effects-requires same-length returns)
+    tie.close (tie.spec (λ c κs. search needs) read-in-requires (λ c κs. search needs) (λ c. search needs) returns)

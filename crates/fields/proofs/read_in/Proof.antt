@@ -11,7 +11,7 @@ use Rattle.sheet.specs.declared.Answered.{Answered}
 use Rattle.fields.specs.declared.Reading.{Reading}
 use Rattle.fields.specs.Field.{readField}
 use Rattle.fields.specs.Order.{readInOrder, readHeader, reading}
-use Rattle.answers.specs.Answers.{answerBytes}
+use Rattle.answers.specs.Answers.{answerRoom, answerBytes}
 use Rattle.headers.proofs.Whole.{header-fits}
 use Rattle.fields.proofs.InOrder.{read-is}
 use Rattle.fields.proofs.Within.{read-on}
@@ -25,22 +25,10 @@ by-order input room s e = e ∙ sym (read-is input room s)
 
 returns : tie.Need-returns
 unfolding readInOrder over answerBytes
-returns c = read-on (c .before .before .before .pre) (record { reading = by-order _ _ _ (rw (lt-ltb _ _ (c .if1 .taken))); output = refl })
-
-header-of-requires : tie.Need-header-of-requires
-header-of-requires c κs = search needs
-
-enum-known-h : tie.Need-enum-known-h
-enum-known-h c = search needs
-
-enum-told : tie.Need-enum-told
-enum-told c = search needs
+returns c = read-on (c .before .before .before .pre) (record { reading = by-order _ _ _ (rw (lt-ltb _ answerRoom (c .if1 .taken))); output = refl })
 
 put-answer-requires : tie.Need-put-answer-requires
 put-answer-requires c κs = (search needs, refused-fits 3)
-
-same-length : tie.Need-same-length
-same-length c = search needs
 
 returns-2 : tie.Need-returns-2
 unfolding readInOrder readHeader
@@ -53,17 +41,8 @@ returns-2 c =
 add-field-in : tie.Need-add-field-in
 add-field-in c = omega (arith, header-fits _ _ _ (c .before .before .before .before .header-of .ensures) (c .before .before .h .given .1))
 
-sub-field-in : tie.Need-sub-field-in
-sub-field-in c = search needs
-
-part-field-in-start : tie.Need-part-field-in-start
-part-field-in-start c = search needs
-
 part-field-in-end : tie.Need-part-field-in-end
 part-field-in-end c = header-fits _ _ _ (c .before .before .before .before .header-of .ensures) (c .before .before .h .given .1)
-
-field-in-requires : tie.Need-field-in-requires
-field-in-requires c κs = search needs
 
 put-answer-requires-2 : tie.Need-put-answer-requires-2
 put-answer-requires-2 c κs = (search needs, rw (ap (λ (a : Answered). a .answer) (c .before .field-in .ensures)) (field-fits _ _ _))
@@ -72,9 +51,6 @@ add-t14 : tie.Need-add-t14
 add-t14 c =
     let h = c .before .before .before .before .before .before .before .before .before in
     omega (arith, header-fits _ _ _ (h .before .before .header-of .ensures) (h .h .given .1))
-
-same-length-2 : tie.Need-same-length-2
-same-length-2 c = search needs
 
 returns-3 : tie.Need-returns-3
 unfolding readInOrder readHeader
@@ -93,18 +69,18 @@ read-in-spec =
     tie.close
     (tie.spec
     returns
-    header-of-requires
-    enum-known-h
-    enum-told
+    (λ c κs. search needs)
+    (λ c. search needs)
+    (λ c. search needs)
     put-answer-requires
-    same-length
+    (λ c. search needs)
     returns-2
     add-field-in
-    sub-field-in
-    part-field-in-start
+    (λ c. search needs)
+    (λ c. search needs)
     part-field-in-end
-    field-in-requires
+    (λ c κs. search needs)
     put-answer-requires-2
     add-t14
-    same-length-2
+    (λ c. search needs)
     returns-3)

@@ -11,12 +11,6 @@ load-requires : tie.Need-load-requires
 unfolding zeros
 load-requires c κs = refl
 
-is-short-requires : tie.Need-is-short-requires
-is-short-requires c κs = search needs
-
-first-requires : tie.Need-first-requires
-first-requires c κs = search needs
-
 read-all-requires : tie.Need-read-all-requires
 read-all-requires c κs =
     let f = c .before .before .before .before in
@@ -24,9 +18,6 @@ read-all-requires c κs =
     let a = f .before .before .before .before .before .before .before .args in
     let d = answer-due (a .state .now) (a .input .now) _ (f .first .ensures) (f .before .is-short .ensures) (l .ensures .1) in
     (l .ensures .2, roomy _ _ (answer-room (a .state .now) (a .input .now) (a .output .now) (sym d ∙ c .before .before .before .if1 .taken)))
-
-same-length : tie.Need-same-length
-same-length c = search needs
 
 returns : tie.Need-returns
 returns c =
@@ -48,9 +39,9 @@ frames-answer-spec =
     tie.close
     (tie.spec
     load-requires
-    is-short-requires
-    first-requires
+    (λ c κs. search needs)
+    (λ c κs. search needs)
     read-all-requires
-    same-length
+    (λ c. search needs)
     returns
     returns-2)

@@ -11,15 +11,6 @@ load-requires : tie.Need-load-requires
 unfolding zeros
 load-requires c κs = refl
 
-is-short-requires : tie.Need-is-short-requires
-is-short-requires c κs = search needs
-
-first-requires : tie.Need-first-requires
-first-requires c κs = search needs
-
-first-requires-2 : tie.Need-first-requires-2
-first-requires-2 c κs = search needs
-
 read-all-requires : tie.Need-read-all-requires
 read-all-requires c κs =
     let f = c .before .before .before .before in
@@ -27,21 +18,6 @@ read-all-requires c κs =
     let a = f .before .before .before .before .before .before .before .before .before .args in
     let d = run-due-is (a .state .now) (a .input .now) (a .output .now) (a .saved .now) (f .first2 .ensures) (f .before .first .ensures) (f .before .before .is-short .ensures) (l .ensures .1) in
     (l .ensures .2, roomy _ _ (answer-room (a .state .now) (a .input .now) (a .output .now) (run-due (a .state .now) (a .input .now) (a .output .now) (a .saved .now) (sym d ∙ c .before .before .before .if1 .taken) .1)))
-
-with-effects-requires : tie.Need-with-effects-requires
-with-effects-requires c κs = search needs
-
-save-requires : tie.Need-save-requires
-save-requires c κs = search needs
-
-saved-count-requires : tie.Need-saved-count-requires
-saved-count-requires c κs = search needs
-
-same-length : tie.Need-same-length
-same-length c = search needs
-
-same-length-2 : tie.Need-same-length-2
-same-length-2 c = search needs
 
 returns : tie.Need-returns
 returns c =
@@ -67,14 +43,14 @@ frames-run-spec =
     tie.close
     (tie.spec
     load-requires
-    is-short-requires
-    first-requires
-    first-requires-2
+    (λ c κs. search needs)
+    (λ c κs. search needs)
+    (λ c κs. search needs)
     read-all-requires
-    with-effects-requires
-    save-requires
-    saved-count-requires
-    same-length
-    same-length-2
+    (λ c κs. search needs)
+    (λ c κs. search needs)
+    (λ c κs. search needs)
+    (λ c. search needs)
+    (λ c. search needs)
     returns
     returns-2)

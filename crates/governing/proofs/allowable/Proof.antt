@@ -13,33 +13,6 @@ use borrow.Author.Needs.{needs}
 use Rattle.governing.proofs.allowable.Statement.{statement}
 use Rattle.governing.proofs.allowable.Tie as tie
 
-first-row-requires : tie.Need-first-row-requires
-first-row-requires c κs = search needs
-
-with-row-requires : tie.Need-with-row-requires
-with-row-requires c κs = search needs
-
-with-row-requires-2 : tie.Need-with-row-requires-2
-with-row-requires-2 c κs = search needs
-
-with-row-requires-3 : tie.Need-with-row-requires-3
-with-row-requires-3 c κs = search needs
-
-with-row-requires-4 : tie.Need-with-row-requires-4
-with-row-requires-4 c κs = search needs
-
-with-row-requires-5 : tie.Need-with-row-requires-5
-with-row-requires-5 c κs = search needs
-
-with-row-requires-6 : tie.Need-with-row-requires-6
-with-row-requires-6 c κs = search needs
-
-with-row-requires-7 : tie.Need-with-row-requires-7
-with-row-requires-7 c κs = search needs
-
-with-row-requires-8 : tie.Need-with-row-requires-8
-with-row-requires-8 c κs = search needs
-
 with-row-requires-9 : tie.Need-with-row-requires-9
 with-row-requires-9 c κs = let s = c .before .before .before .before .before .before .before .before .before in (omega arith, s .pre .0, s .pre .1)
 
@@ -54,14 +27,14 @@ pub allowable-spec : {M : Type 1} → statement M
 allowable-spec =
     tie.close
     (tie.spec
-    first-row-requires
-    with-row-requires
-    with-row-requires-2
-    with-row-requires-3
-    with-row-requires-4
-    with-row-requires-5
-    with-row-requires-6
-    with-row-requires-7
-    with-row-requires-8
+    (λ c κs. search needs)
+    (λ c κs. search needs)
+    (λ c κs. search needs)
+    (λ c κs. search needs)
+    (λ c κs. search needs)
+    (λ c κs. search needs)
+    (λ c κs. search needs)
+    (λ c κs. search needs)
+    (λ c κs. search needs)
     with-row-requires-9
     returns)

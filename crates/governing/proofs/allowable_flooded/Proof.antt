@@ -13,21 +13,6 @@ use borrow.Author.Needs.{needs}
 use Rattle.governing.proofs.allowable_flooded.Statement.{statement}
 use Rattle.governing.proofs.allowable_flooded.Tie as tie
 
-with-row-requires : tie.Need-with-row-requires
-with-row-requires c κs = search needs
-
-with-row-requires-2 : tie.Need-with-row-requires-2
-with-row-requires-2 c κs = search needs
-
-with-row-requires-3 : tie.Need-with-row-requires-3
-with-row-requires-3 c κs = search needs
-
-with-row-requires-4 : tie.Need-with-row-requires-4
-with-row-requires-4 c κs = search needs
-
-with-row-requires-5 : tie.Need-with-row-requires-5
-with-row-requires-5 c κs = search needs
-
 returns : tie.Need-returns
 returns c =
     let i = c .before .before .before .before .before in
@@ -35,21 +20,6 @@ returns c =
     let v : ℕ → ℤ = λ row. valueOf (a .s) row (a .t) in
     row-more v (a .b) 31 4 (row-more v (a .b) 31 3 (row-more v (a .b) 31 2 (row-more v (a .b) 31 1 (row-more v (a .b) 31 0 (no-row v (a .b) 31 refl) (c .before .before .before .before .with-row .ensures)) (c .before .before .before .with-row2 .ensures)) (c .before .before .with-row3 .ensures)) (c .before .with-row4 .ensures)) (c .with-row5 .ensures)
     ∙ first-zone (a .s) v (a .b) (rowsTo 31 35) (rowsTo 36 40) (i .if1 .taken)
-
-with-row-requires-6 : tie.Need-with-row-requires-6
-with-row-requires-6 c κs = search needs
-
-with-row-requires-7 : tie.Need-with-row-requires-7
-with-row-requires-7 c κs = search needs
-
-with-row-requires-8 : tie.Need-with-row-requires-8
-with-row-requires-8 c κs = search needs
-
-with-row-requires-9 : tie.Need-with-row-requires-9
-with-row-requires-9 c κs = search needs
-
-with-row-requires-10 : tie.Need-with-row-requires-10
-with-row-requires-10 c κs = search needs
 
 returns-2 : tie.Need-returns-2
 returns-2 c =
@@ -68,16 +38,16 @@ pub allowable-flooded-spec : {M : Type 1} → statement M
 allowable-flooded-spec =
     tie.close
     (tie.spec
-    with-row-requires
-    with-row-requires-2
-    with-row-requires-3
-    with-row-requires-4
-    with-row-requires-5
+    (λ c κs. search needs)
+    (λ c κs. search needs)
+    (λ c κs. search needs)
+    (λ c κs. search needs)
+    (λ c κs. search needs)
     returns
-    with-row-requires-6
-    with-row-requires-7
-    with-row-requires-8
-    with-row-requires-9
-    with-row-requires-10
+    (λ c κs. search needs)
+    (λ c κs. search needs)
+    (λ c κs. search needs)
+    (λ c κs. search needs)
+    (λ c κs. search needs)
     returns-2
     returns-3)

@@ -14,15 +14,6 @@ use borrow.Author.Needs.{needs}
 use Rattle.governing.proofs.governing.Statement.{statement}
 use Rattle.governing.proofs.governing.Tie as tie
 
-row-table-requires : tie.Need-row-table-requires
-row-table-requires c κs = search needs
-
-strength-requires : tie.Need-strength-requires
-strength-requires c κs = search needs
-
-strength-flooded-requires : tie.Need-strength-flooded-requires
-strength-flooded-requires c κs = search needs
-
 returns : tie.Need-returns
 returns c =
     let t = c .before .before in
@@ -31,12 +22,6 @@ returns c =
     let v : ℕ → ℤ = λ row. valueOf (a .s) row (a .t) in
     c .strength-flooded .ensures ∙ ap (λ (b : Best). bestAmong v b (byZone (a .s) (rowsTo 9 10) (rowsTo 11 12))) (t .strength .ensures) ∙ sym (strength-rows (a .s) v (i .if1 .taken))
 
-allowable-requires : tie.Need-allowable-requires
-allowable-requires c κs = search needs
-
-allowable-flooded-requires : tie.Need-allowable-flooded-requires
-allowable-flooded-requires c κs = search needs
-
 returns-2 : tie.Need-returns-2
 returns-2 c =
     let t = c .before .before in
@@ -44,9 +29,6 @@ returns-2 c =
     let a = i .before .before .before .before .before .args in
     let v : ℕ → ℤ = λ row. valueOf (a .s) row (a .t) in
     c .allowable-flooded .ensures ∙ ap (λ (b : Best). bestAmong v b (byZone (a .s) (rowsTo 31 35) (rowsTo 36 40))) (t .allowable .ensures) ∙ sym (allowable-rows (a .s) v (i .if2 .taken))
-
-first-row-requires : tie.Need-first-row-requires
-first-row-requires c κs = search needs
 
 returns-3 : tie.Need-returns-3
 returns-3 c =
@@ -59,12 +41,12 @@ pub governing-spec : {M : Type 1} → statement M
 governing-spec =
     tie.close
     (tie.spec
-    row-table-requires
-    strength-requires
-    strength-flooded-requires
+    (λ c κs. search needs)
+    (λ c κs. search needs)
+    (λ c κs. search needs)
     returns
-    allowable-requires
-    allowable-flooded-requires
+    (λ c κs. search needs)
+    (λ c κs. search needs)
     returns-2
-    first-row-requires
+    (λ c κs. search needs)
     returns-3)

@@ -10,50 +10,20 @@ use borrow.Author.Needs.{needs}
 use Rattle.governing.proofs.highest.Statement.{statement}
 use Rattle.governing.proofs.highest.Tie as tie
 
-toward-requires : tie.Need-toward-requires
-toward-requires c κs = search needs
-
-toward-requires-2 : tie.Need-toward-requires-2
-toward-requires-2 c κs = search needs
-
-higher-requires : tie.Need-higher-requires
-higher-requires c κs = search needs
-
-toward-requires-3 : tie.Need-toward-requires-3
-toward-requires-3 c κs = search needs
-
-higher-requires-2 : tie.Need-higher-requires-2
-higher-requires-2 c κs = search needs
-
 toward-requires-4 : tie.Need-toward-requires-4
 toward-requires-4 c κs = let s = c .before .before .before .before .before .before .before .before .before in (s .pre .3 .sums-range, omega arith, omega arith, s .pre .3 .forth)
-
-higher-requires-3 : tie.Need-higher-requires-3
-higher-requires-3 c κs = search needs
 
 toward-requires-5 : tie.Need-toward-requires-5
 toward-requires-5 c κs = let s = c .before .before .before .before .before .before .before .before .before .before .before in (s .pre .3 .sums-range, omega arith, omega arith, s .pre .3 .back)
 
-higher-requires-4 : tie.Need-higher-requires-4
-higher-requires-4 c κs = search needs
-
 toward-requires-6 : tie.Need-toward-requires-6
 toward-requires-6 c κs = let s = c .before .before .before .before .before .before .before .before .before .before .before .before .before in (s .pre .2 .sums-range, omega arith, omega arith, s .pre .2 .back)
-
-higher-requires-5 : tie.Need-higher-requires-5
-higher-requires-5 c κs = search needs
 
 toward-requires-7 : tie.Need-toward-requires-7
 toward-requires-7 c κs = let s = c .before .before .before .before .before .before .before .before .before .before .before .before .before .before .before in (s .pre .1 .sums-range, omega arith, omega arith, s .pre .1 .back)
 
-higher-requires-6 : tie.Need-higher-requires-6
-higher-requires-6 c κs = search needs
-
 toward-requires-8 : tie.Need-toward-requires-8
 toward-requires-8 c κs = let s = c .before .before .before .before .before .before .before .before .before .before .before .before .before .before .before .before .before in (s .pre .0 .sums-range, omega arith, omega arith, s .pre .0 .back)
-
-higher-requires-7 : tie.Need-higher-requires-7
-higher-requires-7 c κs = search needs
 
 returns : tie.Need-returns
 returns c =
@@ -65,19 +35,19 @@ pub highest-spec : {M : Type 1} → statement M
 highest-spec =
     tie.close
     (tie.spec
-    toward-requires
-    toward-requires-2
-    higher-requires
-    toward-requires-3
-    higher-requires-2
+    (λ c κs. search needs)
+    (λ c κs. search needs)
+    (λ c κs. search needs)
+    (λ c κs. search needs)
+    (λ c κs. search needs)
     toward-requires-4
-    higher-requires-3
+    (λ c κs. search needs)
     toward-requires-5
-    higher-requires-4
+    (λ c κs. search needs)
     toward-requires-6
-    higher-requires-5
+    (λ c κs. search needs)
     toward-requires-7
-    higher-requires-6
+    (λ c κs. search needs)
     toward-requires-8
-    higher-requires-7
+    (λ c κs. search needs)
     returns)

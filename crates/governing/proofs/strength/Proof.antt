@@ -13,30 +13,6 @@ use borrow.Author.Needs.{needs}
 use Rattle.governing.proofs.strength.Statement.{statement}
 use Rattle.governing.proofs.strength.Tie as tie
 
-first-row-requires : tie.Need-first-row-requires
-first-row-requires c κs = search needs
-
-with-row-requires : tie.Need-with-row-requires
-with-row-requires c κs = search needs
-
-with-row-requires-2 : tie.Need-with-row-requires-2
-with-row-requires-2 c κs = search needs
-
-with-row-requires-3 : tie.Need-with-row-requires-3
-with-row-requires-3 c κs = search needs
-
-with-row-requires-4 : tie.Need-with-row-requires-4
-with-row-requires-4 c κs = search needs
-
-with-row-requires-5 : tie.Need-with-row-requires-5
-with-row-requires-5 c κs = search needs
-
-with-row-requires-6 : tie.Need-with-row-requires-6
-with-row-requires-6 c κs = search needs
-
-with-row-requires-7 : tie.Need-with-row-requires-7
-with-row-requires-7 c κs = search needs
-
 returns : tie.Need-returns
 returns c =
     let f = c .before .before .before .before .before .before .before in
@@ -48,12 +24,12 @@ pub strength-spec : {M : Type 1} → statement M
 strength-spec =
     tie.close
     (tie.spec
-    first-row-requires
-    with-row-requires
-    with-row-requires-2
-    with-row-requires-3
-    with-row-requires-4
-    with-row-requires-5
-    with-row-requires-6
-    with-row-requires-7
+    (λ c κs. search needs)
+    (λ c κs. search needs)
+    (λ c κs. search needs)
+    (λ c κs. search needs)
+    (λ c κs. search needs)
+    (λ c κs. search needs)
+    (λ c κs. search needs)
+    (λ c κs. search needs)
     returns)

@@ -13,12 +13,6 @@ use borrow.Author.Needs.{needs}
 use Rattle.governing.proofs.strength_flooded.Statement.{statement}
 use Rattle.governing.proofs.strength_flooded.Tie as tie
 
-with-row-requires : tie.Need-with-row-requires
-with-row-requires c κs = search needs
-
-with-row-requires-2 : tie.Need-with-row-requires-2
-with-row-requires-2 c κs = search needs
-
 returns : tie.Need-returns
 returns c =
     let i = c .before .before in
@@ -26,12 +20,6 @@ returns c =
     let v : ℕ → ℤ = λ row. valueOf (a .s) row (a .t) in
     row-more v (a .b) 9 1 (row-more v (a .b) 9 0 (no-row v (a .b) 9 refl) (c .before .with-row .ensures)) (c .with-row2 .ensures)
     ∙ first-zone (a .s) v (a .b) (rowsTo 9 10) (rowsTo 11 12) (i .if1 .taken)
-
-with-row-requires-3 : tie.Need-with-row-requires-3
-with-row-requires-3 c κs = search needs
-
-with-row-requires-4 : tie.Need-with-row-requires-4
-with-row-requires-4 c κs = search needs
 
 returns-2 : tie.Need-returns-2
 returns-2 c =
@@ -50,10 +38,10 @@ pub strength-flooded-spec : {M : Type 1} → statement M
 strength-flooded-spec =
     tie.close
     (tie.spec
-    with-row-requires
-    with-row-requires-2
+    (λ c κs. search needs)
+    (λ c κs. search needs)
     returns
-    with-row-requires-3
-    with-row-requires-4
+    (λ c κs. search needs)
+    (λ c κs. search needs)
     returns-2
     returns-3)

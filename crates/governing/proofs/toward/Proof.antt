@@ -9,9 +9,6 @@ use borrow.Author.Needs.{needs}
 use Rattle.governing.proofs.toward.Statement.{statement}
 use Rattle.governing.proofs.toward.Tie as tie
 
-terms-of-requires : tie.Need-terms-of-requires
-terms-of-requires c κs = search needs
-
 governing-requires : tie.Need-governing-requires
 governing-requires c κs = subst TermsInRange (sym (c .terms-of .ensures)) (c .before .before .pre .3)
 
@@ -19,4 +16,4 @@ returns : tie.Need-returns
 returns c = let t = c .before in let s = t .before .before in c .governing .ensures ∙ ap (λ (x : Terms). bestOf (s .args .s) (λ row. valueOf (s .args .s) row x)) (t .terms-of .ensures)
 
 pub toward-spec : {M : Type 1} → statement M
-toward-spec = tie.close (tie.spec terms-of-requires governing-requires returns)
+toward-spec = tie.close (tie.spec (λ c κs. search needs) governing-requires returns)

@@ -7,14 +7,8 @@ use borrow.Author.Needs.{needs}
 use Rattle.governing.proofs.with_row.Statement.{statement}
 use Rattle.governing.proofs.with_row.Tie as tie
 
-value-of-requires : tie.Need-value-of-requires
-value-of-requires c κs = search needs
-
-better-requires : tie.Need-better-requires
-better-requires c κs = search needs
-
 returns : tie.Need-returns
 returns c = let v = c .before in let a = v .before .args in c .better .ensures ∙ (λ i. betterBy (a .b) (a .row) ((read (v .value-of .result) (v .value-of .ok) ∙ v .value-of .ensures) i))
 
 pub with-row-spec : {M : Type 1} → statement M
-with-row-spec = tie.close (tie.spec value-of-requires better-requires returns)
+with-row-spec = tie.close (tie.spec (λ c κs. search needs) (λ c κs. search needs) returns)

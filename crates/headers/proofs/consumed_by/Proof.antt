@@ -8,15 +8,6 @@ use borrow.Author.Needs.{needs}
 use Rattle.headers.proofs.consumed_by.Statement.{statement}
 use Rattle.headers.proofs.consumed_by.Tie as tie
 
-header-of-requires : tie.Need-header-of-requires
-header-of-requires c κs = search needs
-
-enum-known-h : tie.Need-enum-known-h
-enum-known-h c = search needs
-
-enum-told : tie.Need-enum-told
-enum-told c = search needs
-
 returns : tie.Need-returns
 returns c =
     let e = sym (c .before .before .header-of .ensures) ∙ c .enum-told .given .1 in
@@ -32,4 +23,4 @@ returns-2 c =
 
 pub consumed-by-spec : {M : Type 1} → statement M
 consumed-by-spec =
-    tie.close (tie.spec header-of-requires enum-known-h enum-told returns add-result returns-2)
+    tie.close (tie.spec (λ c κs. search needs) (λ c. search needs) (λ c. search needs) returns add-result returns-2)

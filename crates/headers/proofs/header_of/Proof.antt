@@ -10,15 +10,6 @@ returns : tie.Need-returns
 unfolding headerOf
 returns c = simp (lt-ltb _ _ (c .if1 .taken))
 
-byte-requires : tie.Need-byte-requires
-byte-requires c κs = search needs
-
-word-requires : tie.Need-word-requires
-word-requires c κs = search needs
-
-cast-len : tie.Need-cast-len
-cast-len c = search needs
-
 returns-2 : tie.Need-returns-2
 unfolding headerOf
 returns-2 c = simp (le-ltb _ _ (c .before .before .before .if1 .left), lt-ltb longestBody _ (rw (c .before .word .ensures) at (c .if2 .taken)))
@@ -37,4 +28,4 @@ returns-4 c =
 
 pub header-of-spec : {M : Type 1} → statement M
 header-of-spec =
-    tie.close (tie.spec returns byte-requires word-requires cast-len returns-2 returns-3 returns-4)
+    tie.close (tie.spec returns (λ c κs. search needs) (λ c κs. search needs) (λ c. search needs) returns-2 returns-3 returns-4)

@@ -10,18 +10,9 @@ returns : tie.Need-returns
 unfolding readyOf
 returns c = simp (lt-ltb _ _ (c .if1 .taken))
 
-word-requires : tie.Need-word-requires
-word-requires c κs = search needs
-
-cast-len : tie.Need-cast-len
-cast-len c = search needs
-
 returns-2 : tie.Need-returns-2
 unfolding readyOf
 returns-2 c = simp (le-ltb _ _ (c .before .before .if1 .left), lt-ltb longestBody _ (rw (c .before .word .ensures) at (c .if2 .taken)))
-
-sub-if3 : tie.Need-sub-if3
-sub-if3 c = search needs
 
 returns-3 : tie.Need-returns-3
 unfolding readyOf
@@ -36,4 +27,4 @@ returns-4 c =
     simp (le-ltb _ _ (c .before .before .before .if1 .left), le-ltb longestBody _ (rw w at (c .before .if2 .left)), le-ltb _ _ (rw w at (c .if3 .left)))
 
 pub is-ready-spec : {M : Type 1} → statement M
-is-ready-spec = tie.close (tie.spec returns word-requires cast-len returns-2 sub-if3 returns-3 returns-4)
+is-ready-spec = tie.close (tie.spec returns (λ c κs. search needs) (λ c. search needs) returns-2 (λ c. search needs) returns-3 returns-4)

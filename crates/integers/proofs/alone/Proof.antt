@@ -9,9 +9,6 @@ use borrow.Author.Needs.{needs}
 use Rattle.integers.proofs.alone.Statement.{statement}
 use Rattle.integers.proofs.alone.Tie as tie
 
-shl-result : tie.Need-shl-result
-shl-result c = search needs
-
 whole : (k : ℕ) → k < 64 → 1 * 2 ^ k < 2 ^ 64
 whole k h = let l : 2 ^ k < 2 ^ 64 = pow-lt h in omega arith
 
@@ -19,4 +16,4 @@ returns : tie.Need-returns
 returns c = mod-eq-of-lt (whole _ (c .pre)) ∙ omega arith
 
 pub alone-spec : {M : Type 1} → statement M
-alone-spec = tie.close (tie.spec shl-result returns)
+alone-spec = tie.close (tie.spec (λ c. search needs) returns)

@@ -19,9 +19,6 @@ less-above x =
     let d = pos (down x) in
     eq-in (x -ℤ u) (negℤ d) (omega (arith, add-parts x (negℤ u), neg-up u, neg-down u, neg-up d, neg-down d))
 
-above-zero-requires : tie.Need-above-zero-requires
-above-zero-requires c κs = search needs
-
 below-small : (c : tie.After-above-zero) → natAbs (negℤ (pos (down (c .before .args .x)))) < 2 ^ 63
 below-small c = let x = c .before .args .x in omega (arith, abs-negated (pos (down x)), abs-parts x, c .before .pre)
 
@@ -39,4 +36,4 @@ returns : tie.Need-returns
 returns c = ap (λ (z : ℤ). toZ w64 (ofZ w64 z)) (difference c) ∙ back (negℤ (pos (down (c .before .args .x)))) (below-small c)
 
 pub below-zero-spec : {M : Type 1} → statement M
-below-zero-spec = tie.close (tie.spec above-zero-requires sub-result returns)
+below-zero-spec = tie.close (tie.spec (λ c κs. search needs) sub-result returns)

@@ -6,11 +6,8 @@ use mir.ValLaws.{toZ-pos}
 use Rattle.integers.proofs.signed.Statement.{statement}
 use Rattle.integers.proofs.signed.Tie as tie
 
-cast-result : tie.Need-cast-result
-cast-result c = search needs
-
 returns : tie.Need-returns
 returns c = toZ-pos w64 (c .args .x) (c .pre)
 
 pub signed-spec : {M : Type 1} → statement M
-signed-spec = tie.close (tie.spec cast-result returns)
+signed-spec = tie.close (tie.spec (λ c. search needs) returns)

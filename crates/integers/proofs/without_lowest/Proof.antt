@@ -5,11 +5,8 @@ use Rattle.integers.proofs.Walks.{without-lowest}
 use Rattle.integers.proofs.without_lowest.Statement.{statement}
 use Rattle.integers.proofs.without_lowest.Tie as tie
 
-sub-result : tie.Need-sub-result
-sub-result c = search needs
-
 returns : tie.Need-returns
 returns c = record { less = λ t l. without-lowest t (c .args .set) l }
 
 pub without-lowest-spec : {M : Type 1} → statement M
-without-lowest-spec = tie.close (tie.spec sub-result returns)
+without-lowest-spec = tie.close (tie.spec (λ c. search needs) returns)

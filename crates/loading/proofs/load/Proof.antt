@@ -17,15 +17,6 @@ small : (n : ℕ) → Room false 0 n answerRoom
 unfolding Room
 small n = omega arith
 
-fresh-settings-requires : tie.Need-fresh-settings-requires
-fresh-settings-requires c κs = search needs
-
-fresh-requires : tie.Need-fresh-requires
-fresh-requires c κs = search needs
-
-slice-aggregate-read-all : tie.Need-slice-aggregate-read-all
-slice-aggregate-read-all c = search needs
-
 read-all-requires : tie.Need-read-all-requires
 read-all-requires c κs =
     let f = c .before .before in
@@ -41,4 +32,4 @@ returns c =
     load-is (a .args .state .now) (r .read-all .result) _ (replicate answerRoom 0) (rw e at (r .read-all .ensures))
 
 pub load-spec : {M : Type 1} → statement M
-load-spec = tie.close (tie.spec fresh-settings-requires fresh-requires slice-aggregate-read-all read-all-requires returns)
+load-spec = tie.close (tie.spec (λ c κs. search needs) (λ c κs. search needs) (λ c. search needs) read-all-requires returns)

@@ -8,30 +8,6 @@ use Rattle.naming.specs.Sets.{gatheredOf, chosenOf}
 use Rattle.naming.proofs.chosen_in.Statement.{statement}
 use Rattle.naming.proofs.chosen_in.Tie as tie
 
-kinds-in-requires : tie.Need-kinds-in-requires
-kinds-in-requires c κs = search needs
-
-gathered-requires : tie.Need-gathered-requires
-gathered-requires c κs = search needs
-
-gathered-requires-2 : tie.Need-gathered-requires-2
-gathered-requires-2 c κs = search needs
-
-gathered-requires-3 : tie.Need-gathered-requires-3
-gathered-requires-3 c κs = search needs
-
-gathered-requires-4 : tie.Need-gathered-requires-4
-gathered-requires-4 c κs = search needs
-
-gathered-requires-5 : tie.Need-gathered-requires-5
-gathered-requires-5 c κs = search needs
-
-gathered-requires-6 : tie.Need-gathered-requires-6
-gathered-requires-6 c κs = search needs
-
-gathered-requires-7 : tie.Need-gathered-requires-7
-gathered-requires-7 c κs = search needs
-
 returns : tie.Need-returns
 unfolding chosenOf
 returns c =
@@ -59,12 +35,12 @@ pub chosen-in-spec : {M : Type 1} → statement M
 chosen-in-spec =
     tie.close
     (tie.spec
-    kinds-in-requires
-    gathered-requires
-    gathered-requires-2
-    gathered-requires-3
-    gathered-requires-4
-    gathered-requires-5
-    gathered-requires-6
-    gathered-requires-7
+    (λ c κs. search needs)
+    (λ c κs. search needs)
+    (λ c κs. search needs)
+    (λ c κs. search needs)
+    (λ c κs. search needs)
+    (λ c κs. search needs)
+    (λ c κs. search needs)
+    (λ c κs. search needs)
     returns)

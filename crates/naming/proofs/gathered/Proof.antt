@@ -24,18 +24,6 @@ loop-holds : tie.Need-loop-holds Inv-loop μ-loop
 unfolding gatheredOf sum
 loop-holds c = (omega arith, refl)
 
-add-kind : tie.Need-add-kind Inv-loop μ-loop
-add-kind c = search needs
-
-cast-from : tie.Need-cast-from Inv-loop μ-loop
-cast-from c = search needs
-
-shr-from : tie.Need-shr-from Inv-loop μ-loop
-shr-from c = search needs
-
-mul-set : tie.Need-mul-set Inv-loop μ-loop
-mul-set c = search needs
-
 shared-slice-read-set : tie.Need-shared-slice-read-set Inv-loop μ-loop
 shared-slice-read-set c = let s = c .before .before .before .before in omega (arith, s .pre .0 .long)
 
@@ -50,12 +38,6 @@ add-set c =
       gathered-small (a .places .now) (a .factored) (a .first) (h .loop .i) (s .pre .0) (s .pre .1) (omega arith),
       s .pre .0 .each (a .first + h .loop .i) (omega arith) (omega arith),
     )
-
-add-i : tie.Need-add-i Inv-loop μ-loop
-add-i c = search needs
-
-loop-less : tie.Need-loop-less Inv-loop μ-loop
-loop-less c = search needs
 
 loop-again : tie.Need-loop-again Inv-loop μ-loop
 loop-again c =
@@ -81,13 +63,13 @@ gathered-spec =
     Inv-loop
     μ-loop
     loop-holds
-    add-kind
-    cast-from
-    shr-from
-    mul-set
+    (λ c. search needs)
+    (λ c. search needs)
+    (λ c. search needs)
+    (λ c. search needs)
     shared-slice-read-set
     add-set
-    add-i
-    loop-less
+    (λ c. search needs)
+    (λ c. search needs)
     loop-again
     returns)

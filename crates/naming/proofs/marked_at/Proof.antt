@@ -37,9 +37,6 @@ effect-back c = widened _ (c .widen .result) (c .before .widen-arg .given) (c .w
 loop-holds : tie.Need-loop-holds Inv-loop μ-loop
 loop-holds c = marking-from (c .args .set) (x c) (c .pre .0)
 
-lowest-requires : tie.Need-lowest-requires Inv-loop μ-loop
-lowest-requires c κs = search needs
-
 alone-requires : tie.Need-alone-requires Inv-loop μ-loop
 alone-requires c κs = omega (arith, at-lowest c .inside)
 
@@ -54,9 +51,6 @@ mul-widen c = omega (arith, at-lowest (c .before) .inside)
 
 shared-slice-copy-out-widen : tie.Need-shared-slice-copy-out-widen Inv-loop μ-loop
 shared-slice-copy-out-widen c = let s = c .before .before .before .before in omega (arith, at-lowest (c .before) .inside, s .pre .1 .long)
-
-widen-requires : tie.Need-widen-requires Inv-loop μ-loop
-widen-requires c κs = search needs
 
 signed-requires : tie.Need-signed-requires Inv-loop μ-loop
 signed-requires c κs =
@@ -94,13 +88,13 @@ marked-at-spec =
     Inv-loop
     μ-loop
     loop-holds
-    lowest-requires
+    (λ c κs. search needs)
     alone-requires
     mul-at
     add-at
     mul-widen
     shared-slice-copy-out-widen
-    widen-requires
+    (λ c κs. search needs)
     signed-requires
     with-case-requires
     sub-rest

@@ -30,9 +30,6 @@ at-lowest c =
 loop-holds : tie.Need-loop-holds Inv-loop μ-loop
 loop-holds c = marking-from (c .args .set) (x c) (c .pre .0)
 
-lowest-requires : tie.Need-lowest-requires Inv-loop μ-loop
-lowest-requires c κs = search needs
-
 alone-requires : tie.Need-alone-requires Inv-loop μ-loop
 alone-requires c κs = omega (arith, at-lowest c .inside)
 
@@ -67,7 +64,7 @@ marked-by-spec =
     Inv-loop
     μ-loop
     loop-holds
-    lowest-requires
+    (λ c κs. search needs)
     alone-requires
     weighed-case-requires
     with-case-requires

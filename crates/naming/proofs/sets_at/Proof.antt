@@ -13,9 +13,6 @@ use Rattle.naming.proofs.sets_at.Tie as tie
 abbrev x : tie.Start → ℕ → ℤ
 x s = λ k. turned (s .args .minus) (effectOf (s .args .effects .now) k (s .args .component))
 
-chosen-in-requires : tie.Need-chosen-in-requires
-chosen-in-requires c κs = search needs
-
 small : (c : tie.After-chosen-in) → ChosenInRange (c .chosen-in .result)
 small c = let s = c .before .before in chosen-small (chosenOf (s .args .row) (s .args .places .now)) (s .pre .2) (c .chosen-in .result) (c .chosen-in .ensures)
 
@@ -67,7 +64,7 @@ pub sets-at-spec : {M : Type 1} → statement M
 sets-at-spec =
     tie.close
     (tie.spec
-    chosen-in-requires
+    (λ c κs. search needs)
     marked-at-requires
     marked-at-requires-2
     marked-at-requires-3

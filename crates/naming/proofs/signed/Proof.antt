@@ -7,9 +7,6 @@ use Rattle.integers.proofs.Machine.{read}
 use Rattle.naming.proofs.signed.Statement.{statement}
 use Rattle.naming.proofs.signed.Tie as tie
 
-negated-requires : tie.Need-negated-requires
-negated-requires c κs = search needs
-
 returns : tie.Need-returns
 returns c =
     let s = c .before .before in
@@ -20,4 +17,4 @@ returns-2 : tie.Need-returns-2
 returns-2 c = let s = c .before in rw (c .if1 .left) (read (s .args .x) (s .fits .x .sfits))
 
 pub signed-spec : {M : Type 1} → statement M
-signed-spec = tie.close (tie.spec negated-requires returns returns-2)
+signed-spec = tie.close (tie.spec (λ c κs. search needs) returns returns-2)

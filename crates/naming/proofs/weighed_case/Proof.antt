@@ -13,42 +13,6 @@ use Rattle.naming.proofs.Reading.{widened, weight-back, room-for, gave,
 use Rattle.naming.proofs.weighed_case.Statement.{statement}
 use Rattle.naming.proofs.weighed_case.Tie as tie
 
-mul-at : tie.Need-mul-at
-mul-at c = search needs
-
-mul-widen : tie.Need-mul-widen
-mul-widen c = search needs
-
-shared-slice-copy-out-widen : tie.Need-shared-slice-copy-out-widen
-shared-slice-copy-out-widen c = search needs
-
-widen-requires : tie.Need-widen-requires
-widen-requires c κs = search needs
-
-add-widen : tie.Need-add-widen
-add-widen c = search needs
-
-mul-widen-2 : tie.Need-mul-widen-2
-mul-widen-2 c = search needs
-
-shared-slice-copy-out-widen-2 : tie.Need-shared-slice-copy-out-widen-2
-shared-slice-copy-out-widen-2 c = search needs
-
-widen-requires-2 : tie.Need-widen-requires-2
-widen-requires-2 c κs = search needs
-
-add-widen-2 : tie.Need-add-widen-2
-add-widen-2 c = search needs
-
-mul-widen-3 : tie.Need-mul-widen-3
-mul-widen-3 c = search needs
-
-shared-slice-copy-out-widen-3 : tie.Need-shared-slice-copy-out-widen-3
-shared-slice-copy-out-widen-3 c = search needs
-
-widen-requires-3 : tie.Need-widen-requires-3
-widen-requires-3 c κs = search needs
-
 -- the effects
 module _ (c : tie.After-widen3) where
   abbrev start : tie.Start
@@ -116,18 +80,18 @@ pub weighed-case-spec : {M : Type 1} → statement M
 weighed-case-spec =
     tie.close
     (tie.spec
-    mul-at
-    mul-widen
-    shared-slice-copy-out-widen
-    widen-requires
-    add-widen
-    mul-widen-2
-    shared-slice-copy-out-widen-2
-    widen-requires-2
-    add-widen-2
-    mul-widen-3
-    shared-slice-copy-out-widen-3
-    widen-requires-3
+    (λ c. search needs)
+    (λ c. search needs)
+    (λ c. search needs)
+    (λ c κs. search needs)
+    (λ c. search needs)
+    (λ c. search needs)
+    (λ c. search needs)
+    (λ c κs. search needs)
+    (λ c. search needs)
+    (λ c. search needs)
+    (λ c. search needs)
+    (λ c κs. search needs)
     scaled-requires
     scaled-requires-2
     scaled-requires-3

@@ -17,12 +17,6 @@ use Rattle.naming.proofs.Reading.{positive, negative}
 use Rattle.naming.proofs.with_case.Statement.{statement}
 use Rattle.naming.proofs.with_case.Tie as tie
 
-with-bit-requires : tie.Need-with-bit-requires
-with-bit-requires c κs = search needs
-
-with-bit-requires-2 : tie.Need-with-bit-requires-2
-with-bit-requires-2 c κs = search needs
-
 -- the fields, where the test of the definition gives t
 fields-told : (c : tie.After-with-bit2) → let m = c .before .before .args .m in let x = c .before .before .args .x in let bit = c .before .before .args .bit in
     (t : Bool) → ltZ (m .most) x ≡ t → (lead : ℕ) → lead ≡ cond t bit (m .lead) → (most : ℤ) → most ≡ cond t x (m .most) →
@@ -58,4 +52,4 @@ returns-2 c =
     (toZ-ofZ w64 (s .args .m .most) (search needs))
 
 pub with-case-spec : {M : Type 1} → statement M
-with-case-spec = tie.close (tie.spec with-bit-requires with-bit-requires-2 returns returns-2)
+with-case-spec = tie.close (tie.spec (λ c κs. search needs) (λ c κs. search needs) returns returns-2)

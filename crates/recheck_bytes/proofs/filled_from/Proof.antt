@@ -29,15 +29,6 @@ loop-holds : tie.Need-loop-holds Inv-loop μ-loop
 unfolding filledUpTo
 loop-holds c = (search needs, refl)
 
-byte-at-requires : tie.Need-byte-at-requires Inv-loop μ-loop
-byte-at-requires c κs = search needs
-
-add-i : tie.Need-add-i Inv-loop μ-loop
-add-i c = search needs
-
-loop-less : tie.Need-loop-less Inv-loop μ-loop
-loop-less c = search needs
-
 loop-again : tie.Need-loop-again Inv-loop μ-loop
 loop-again c =
     let l = c .before .before .loop in
@@ -53,4 +44,4 @@ returns c =
 pub filled-from-spec : {M : Type 1} → statement M
 filled-from-spec =
     tie.close
-    (tie.spec Inv-loop μ-loop loop-holds byte-at-requires add-i loop-less loop-again returns)
+    (tie.spec Inv-loop μ-loop loop-holds (λ c κs. search needs) (λ c. search needs) (λ c. search needs) loop-again returns)

@@ -34,24 +34,6 @@ abbrev μ-loop : tie.MeasureT-loop
 loop-holds : tie.Need-loop-holds Inv-loop μ-loop
 loop-holds c = (search needs, none 32)
 
-element-copy-out-factor : tie.Need-element-copy-out-factor Inv-loop μ-loop
-element-copy-out-factor c = search needs
-
-factor-requires : tie.Need-factor-requires Inv-loop μ-loop
-factor-requires c κs = search needs
-
-mul-factors : tie.Need-mul-factors Inv-loop μ-loop
-mul-factors c = search needs
-
-array-write-factors : tie.Need-array-write-factors Inv-loop μ-loop
-array-write-factors c = search needs
-
-add-case : tie.Need-add-case Inv-loop μ-loop
-add-case c = search needs
-
-loop-less : tie.Need-loop-less Inv-loop μ-loop
-loop-less c = search needs
-
 loop-again : tie.Need-loop-again Inv-loop μ-loop
 loop-again c =
     let l = c .before .before .before .loop in
@@ -67,11 +49,11 @@ factors-in-spec =
     Inv-loop
     μ-loop
     loop-holds
-    element-copy-out-factor
-    factor-requires
-    mul-factors
-    array-write-factors
-    add-case
-    loop-less
+    (λ c. search needs)
+    (λ c κs. search needs)
+    (λ c. search needs)
+    (λ c. search needs)
+    (λ c. search needs)
+    (λ c. search needs)
     loop-again
     returns)

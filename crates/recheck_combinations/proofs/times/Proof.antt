@@ -16,8 +16,5 @@ below k {a} {b} ha hb =
 mul-result : tie.Need-mul-result
 mul-result c = record { fits = below 32 (search needs) (search needs) }
 
-returns : tie.Need-returns
-returns c = search needs
-
 pub times-spec : {M : Type 1} → statement M
-times-spec = tie.close (tie.spec mul-result returns)
+times-spec = tie.close (tie.spec mul-result (λ c. search needs))

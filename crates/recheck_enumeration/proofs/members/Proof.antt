@@ -11,33 +11,15 @@ Inv-loop set rest₀ count₀ i₀ rest count i = i ≤ 64
 abbrev μ-loop : tie.MeasureT-loop
 μ-loop set rest₀ count₀ i₀ rest count i = 64 - i
 
-loop-holds : tie.Need-loop-holds Inv-loop μ-loop
-loop-holds c = search needs
-
-wrapping-add-usize-requires : tie.Need-wrapping-add-usize-requires Inv-loop μ-loop
-wrapping-add-usize-requires c κs = search needs
-
-add-i : tie.Need-add-i Inv-loop μ-loop
-add-i c = search needs
-
-loop-less : tie.Need-loop-less Inv-loop μ-loop
-loop-less c = search needs
-
-loop-again : tie.Need-loop-again Inv-loop μ-loop
-loop-again c = search needs
-
-returns : tie.Need-returns Inv-loop μ-loop
-returns c = search needs
-
 pub members-spec : {M : Type 1} → statement M
 members-spec =
     tie.close
     (tie.spec
     Inv-loop
     μ-loop
-    loop-holds
-    wrapping-add-usize-requires
-    add-i
-    loop-less
-    loop-again
-    returns)
+    (λ c. search needs)
+    (λ c κs. search needs)
+    (λ c. search needs)
+    (λ c. search needs)
+    (λ c. search needs)
+    (λ c. search needs))

@@ -11,24 +11,6 @@ Inv-loop all number set₀ rest₀ picks₀ bit₀ case₀ set rest picks bit ca
 abbrev μ-loop : tie.MeasureT-loop
 μ-loop all number set₀ rest₀ picks₀ bit₀ case₀ set rest picks bit case = 32 - case
 
-loop-holds : tie.Need-loop-holds Inv-loop μ-loop
-loop-holds c = search needs
-
-mul-bit : tie.Need-mul-bit Inv-loop μ-loop
-mul-bit c = search needs
-
-add-case : tie.Need-add-case Inv-loop μ-loop
-add-case c = search needs
-
-loop-less : tie.Need-loop-less Inv-loop μ-loop
-loop-less c = search needs
-
-loop-again : tie.Need-loop-again Inv-loop μ-loop
-loop-again c = search needs
-
-returns : tie.Need-returns Inv-loop μ-loop
-returns c = search needs
-
 pub subset-spec : {M : Type 1} → statement M
 subset-spec =
-    tie.close (tie.spec Inv-loop μ-loop loop-holds mul-bit add-case loop-less loop-again returns)
+    tie.close (tie.spec Inv-loop μ-loop (λ c. search needs) (λ c. search needs) (λ c. search needs) (λ c. search needs) (λ c. search needs) (λ c. search needs))

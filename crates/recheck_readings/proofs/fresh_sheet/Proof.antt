@@ -5,14 +5,8 @@ use Rattle.sheet.proofs.Kept.{fresh-kept}
 use Rattle.recheck_readings.proofs.fresh_sheet.Statement.{statement}
 use Rattle.recheck_readings.proofs.fresh_sheet.Tie as tie
 
-fresh-settings-requires : tie.Need-fresh-settings-requires
-fresh-settings-requires c κs = search needs
-
-fresh-requires : tie.Need-fresh-requires
-fresh-requires c κs = search needs
-
 returns : tie.Need-returns
 returns c = rw (c .fresh .ensures, c .before .fresh-settings .ensures) fresh-kept
 
 pub fresh-sheet-spec : {M : Type 1} → statement M
-fresh-sheet-spec = tie.close (tie.spec fresh-settings-requires fresh-requires returns)
+fresh-sheet-spec = tie.close (tie.spec (λ c κs. search needs) (λ c κs. search needs) returns)

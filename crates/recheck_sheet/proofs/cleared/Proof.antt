@@ -27,21 +27,6 @@ loop-holds : tie.Need-loop-holds Inv-loop μ-loop
 unfolding cleared
 loop-holds c = (search needs, refl)
 
-add-left : tie.Need-add-left Inv-loop μ-loop
-add-left c = search needs
-
-mul-left : tie.Need-mul-left Inv-loop μ-loop
-mul-left c = search needs
-
-array-write-left : tie.Need-array-write-left Inv-loop μ-loop
-array-write-left c = search needs
-
-add-i : tie.Need-add-i Inv-loop μ-loop
-add-i c = search needs
-
-loop-less : tie.Need-loop-less Inv-loop μ-loop
-loop-less c = search needs
-
 loop-again : tie.Need-loop-again Inv-loop μ-loop
 loop-again c =
     let l = c .before .loop in
@@ -59,10 +44,10 @@ cleared-spec =
     Inv-loop
     μ-loop
     loop-holds
-    add-left
-    mul-left
-    array-write-left
-    add-i
-    loop-less
+    (λ c. search needs)
+    (λ c. search needs)
+    (λ c. search needs)
+    (λ c. search needs)
+    (λ c. search needs)
     loop-again
     returns)

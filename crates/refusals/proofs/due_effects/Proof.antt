@@ -5,33 +5,6 @@ use borrow.Author.Needs.{needs}
 use Rattle.refusals.proofs.due_effects.Statement.{statement}
 use Rattle.refusals.proofs.due_effects.Tie as tie
 
-first-requires : tie.Need-first-requires
-first-requires c κs = search needs
-
-effect-outside-requires : tie.Need-effect-outside-requires
-effect-outside-requires c κs = search needs
-
-first-requires-2 : tie.Need-first-requires-2
-first-requires-2 c κs = search needs
-
-effect-outside-requires-2 : tie.Need-effect-outside-requires-2
-effect-outside-requires-2 c κs = search needs
-
-first-requires-3 : tie.Need-first-requires-3
-first-requires-3 c κs = search needs
-
-effect-outside-requires-3 : tie.Need-effect-outside-requires-3
-effect-outside-requires-3 c κs = search needs
-
-first-requires-4 : tie.Need-first-requires-4
-first-requires-4 c κs = search needs
-
-first-requires-5 : tie.Need-first-requires-5
-first-requires-5 c κs = search needs
-
-first-requires-6 : tie.Need-first-requires-6
-first-requires-6 c κs = search needs
-
 returns : tie.Need-returns
 unfolding dueEffectsAt
 returns c =
@@ -53,13 +26,13 @@ pub due-effects-spec : {M : Type 1} → statement M
 due-effects-spec =
     tie.close
     (tie.spec
-    first-requires
-    effect-outside-requires
-    first-requires-2
-    effect-outside-requires-2
-    first-requires-3
-    effect-outside-requires-3
-    first-requires-4
-    first-requires-5
-    first-requires-6
+    (λ c κs. search needs)
+    (λ c κs. search needs)
+    (λ c κs. search needs)
+    (λ c κs. search needs)
+    (λ c κs. search needs)
+    (λ c κs. search needs)
+    (λ c κs. search needs)
+    (λ c κs. search needs)
+    (λ c κs. search needs)
     returns)

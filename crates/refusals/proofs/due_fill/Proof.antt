@@ -5,18 +5,6 @@ use borrow.Author.Needs.{needs}
 use Rattle.refusals.proofs.due_fill.Statement.{statement}
 use Rattle.refusals.proofs.due_fill.Tie as tie
 
-first-requires : tie.Need-first-requires
-first-requires c κs = search needs
-
-kind-outside-requires : tie.Need-kind-outside-requires
-kind-outside-requires c κs = search needs
-
-first-requires-2 : tie.Need-first-requires-2
-first-requires-2 c κs = search needs
-
-first-requires-3 : tie.Need-first-requires-3
-first-requires-3 c κs = search needs
-
 returns : tie.Need-returns
 unfolding dueFillAt
 returns c =
@@ -25,4 +13,4 @@ returns c =
 pub due-fill-spec : {M : Type 1} → statement M
 due-fill-spec =
     tie.close
-    (tie.spec first-requires kind-outside-requires first-requires-2 first-requires-3 returns)
+    (tie.spec (λ c κs. search needs) (λ c κs. search needs) (λ c κs. search needs) (λ c κs. search needs) returns)

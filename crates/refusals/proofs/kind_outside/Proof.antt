@@ -10,21 +10,6 @@ use Rattle.refusals.proofs.kind_outside.Tie as tie
 known-as : (v : tie.After-class-of) (q : Class) → v .class-of .result ≡ q → unknown q ≡ unknown (classOf (v .before .args .n))
 known-as v q e = sym (ap unknown (sym (v .class-of .ensures) ∙ e))
 
-class-of-requires : tie.Need-class-of-requires
-class-of-requires c κs = search needs
-
-enum-told : tie.Need-enum-told
-enum-told c = search needs
-
-enum-told-2 : tie.Need-enum-told-2
-enum-told-2 c = search needs
-
-enum-told-3 : tie.Need-enum-told-3
-enum-told-3 c = search needs
-
-enum-told-4 : tie.Need-enum-told-4
-enum-told-4 c = search needs
-
 returns : tie.Need-returns
 returns c = known-as (c .before .before) _ (c .enum-told .given .1)
 
@@ -41,11 +26,11 @@ pub kind-outside-spec : {M : Type 1} → statement M
 kind-outside-spec =
     tie.close
     (tie.spec
-    class-of-requires
-    enum-told
-    enum-told-2
-    enum-told-3
-    enum-told-4
+    (λ c κs. search needs)
+    (λ c. search needs)
+    (λ c. search needs)
+    (λ c. search needs)
+    (λ c. search needs)
     returns
     returns-2
     returns-3

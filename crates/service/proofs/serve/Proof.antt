@@ -22,12 +22,6 @@ Inv-loop effects₀ input₀ output₀ s₀ left₀ effects input output s left 
 abbrev μ-loop : tie.MeasureT-loop
 μ-loop effects₀ input₀ output₀ s₀ left₀ effects input output s left = left
 
-fresh-settings-requires : tie.Need-fresh-settings-requires Inv-loop μ-loop
-fresh-settings-requires c κs = search needs
-
-fresh-requires : tie.Need-fresh-requires Inv-loop μ-loop
-fresh-requires c κs = search needs
-
 loop-holds : tie.Need-loop-holds Inv-loop μ-loop
 loop-holds c =
     let a = c .before .before .before .before in
@@ -35,26 +29,11 @@ loop-holds c =
     fresh-whole _ (c .fresh .ensures) (c .before .fresh-settings .ensures) (a .pre .0) in
     (serving-start (length (a .args .output .now)) e, rw e fresh-kept, search needs, search needs, search needs, search needs)
 
-turn-requires : tie.Need-turn-requires Inv-loop μ-loop
-turn-requires c κs = search needs
-
-remaining-requires : tie.Need-remaining-requires Inv-loop μ-loop
-remaining-requires c κs = search needs
-
-loop-less : tie.Need-loop-less Inv-loop μ-loop
-loop-less c = search needs
-
 loop-again : tie.Need-loop-again Inv-loop μ-loop
 loop-again c =
     let t = c .before .before .before .before .before in
     let i = t .before .before .before .before .before .loop .inv in
     (serving-next (i .0) (t .before .before .before .before .loop-test .taken) (rw (i .5) at (t .turn .ensures .0)) (c .remaining .ensures .1), search needs, search needs, search needs, search needs, search needs)
-
-same-length : tie.Need-same-length Inv-loop μ-loop
-same-length c = search needs
-
-same-length-2 : tie.Need-same-length-2 Inv-loop μ-loop
-same-length-2 c = search needs
 
 returns : tie.Need-returns Inv-loop μ-loop
 returns c = served (c .before .loop .inv .0) (c .loop-test .left)
@@ -65,13 +44,13 @@ serve-spec =
     (tie.spec
     Inv-loop
     μ-loop
-    fresh-settings-requires
-    fresh-requires
+    (λ c κs. search needs)
+    (λ c κs. search needs)
     loop-holds
-    turn-requires
-    remaining-requires
-    loop-less
+    (λ c κs. search needs)
+    (λ c κs. search needs)
+    (λ c. search needs)
     loop-again
-    same-length
-    same-length-2
+    (λ c. search needs)
+    (λ c. search needs)
     returns)

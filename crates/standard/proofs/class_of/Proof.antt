@@ -11,9 +11,6 @@ use Rattle.standard.proofs.Table.{same-at}
 use Rattle.standard.proofs.class_of.Statement.{statement}
 use Rattle.standard.proofs.class_of.Tie as tie
 
-sub-t4 : tie.Need-sub-t4
-sub-t4 c = search needs
-
 returns : tie.Need-returns
 unfolding classOf
 returns c = same-at (λ k. Always) classOf 1 3 (c .before .before .args .kind) refl (omega arith) (omega arith)
@@ -42,4 +39,4 @@ returns-6 c = sym (List·getD-eq-default classes Unknown {n = c .before .before 
 
 pub class-of-spec : {M : Type 1} → statement M
 class-of-spec =
-    tie.close (tie.spec sub-t4 returns returns-2 returns-3 returns-4 returns-5 returns-6)
+    tie.close (tie.spec (λ c. search needs) returns returns-2 returns-3 returns-4 returns-5 returns-6)

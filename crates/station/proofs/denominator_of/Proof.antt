@@ -13,15 +13,6 @@ use Rattle.station.proofs.denominator_of.Tie as tie
 held : (c : tie.Start) → Held (c .args .p)
 held c = search needs
 
-cast-n : tie.Need-cast-n
-cast-n c = search needs
-
-cast-y : tie.Need-cast-y
-cast-y c = search needs
-
-cast-z : tie.Need-cast-z
-cast-z c = search needs
-
 two-fit : (c : tie.Start) → c .args .p .n * c .args .p .y < 2 ^ 32
 two-fit c = product-fits (held c .n) (held c .y)
 
@@ -47,4 +38,4 @@ returns c = refl
 
 pub denominator-of-spec : {M : Type 1} → statement M
 denominator-of-spec =
-    tie.close (tie.spec cast-n cast-y cast-z mul-result mul-result-2 mul-result-3 returns)
+    tie.close (tie.spec (λ c. search needs) (λ c. search needs) (λ c. search needs) mul-result mul-result-2 mul-result-3 returns)

@@ -78,29 +78,17 @@ least-is c =
 places-of-requires : tie.Need-places-of-requires
 places-of-requires c κs = let s = c .before in record { long = s .pre .0 .kinds-long; range = s .pre .0 .kinds-range }
 
-slice-aggregate-sums-of : tie.Need-slice-aggregate-sums-of
-slice-aggregate-sums-of c = search needs
-
 sums-of-requires : tie.Need-sums-of-requires
 sums-of-requires c κs =
     let p = c .before in
     let s = p .before .before in
     (places-in-range (p .places-of .result) (kind s) (p .places-of .ensures), in-range s, s .pre .1)
 
-slice-aggregate-toward : tie.Need-slice-aggregate-toward
-slice-aggregate-toward c = search needs
-
 toward-requires : tie.Need-toward-requires
 toward-requires c κs = let r = sums-ready (c .before) in (r .sums-range, omega arith, omega arith, r .forth)
 
-slice-aggregate-toward-2 : tie.Need-slice-aggregate-toward-2
-slice-aggregate-toward-2 c = search needs
-
 toward-requires-2 : tie.Need-toward-requires-2
 toward-requires-2 c κs = let r = sums-ready (c .before .before .before) in (r .sums-range, omega arith, omega arith, r .back)
-
-slice-aggregate-sets-at : tie.Need-slice-aggregate-sets-at
-slice-aggregate-sets-at c = search needs
 
 sets-at-requires : tie.Need-sets-at-requires
 sets-at-requires c κs =
@@ -113,9 +101,6 @@ sets-at-requires c κs =
       in-range s,
       s .pre .1,
     )
-
-slice-aggregate-sets-at-2 : tie.Need-slice-aggregate-sets-at-2
-slice-aggregate-sets-at-2 c = search needs
 
 sets-at-requires-2 : tie.Need-sets-at-requires-2
 sets-at-requires-2 c κs =
@@ -190,15 +175,15 @@ extremes-of-spec =
     tie.close
     (tie.spec
     places-of-requires
-    slice-aggregate-sums-of
+    (λ c. search needs)
     sums-of-requires
-    slice-aggregate-toward
+    (λ c. search needs)
     toward-requires
-    slice-aggregate-toward-2
+    (λ c. search needs)
     toward-requires-2
-    slice-aggregate-sets-at
+    (λ c. search needs)
     sets-at-requires
-    slice-aggregate-sets-at-2
+    (λ c. search needs)
     sets-at-requires-2
     negated-requires
     extreme-requires

@@ -15,15 +15,6 @@ use Rattle.station.proofs.pattern_weights.Tie as tie
 held : (c : tie.Start) → Held (c .args .p)
 held c = search needs
 
-cast-n : tie.Need-cast-n
-cast-n c = search needs
-
-cast-y : tie.Need-cast-y
-cast-y c = search needs
-
-cast-z : tie.Need-cast-z
-cast-z c = search needs
-
 -- the three products fit
 module _ (c : tie.Start) where
   y-by-z : c .args .p .y * c .args .p .z < 2 ^ 32
@@ -69,9 +60,9 @@ pub pattern-weights-spec : {M : Type 1} → statement M
 pattern-weights-spec =
     tie.close
     (tie.spec
-    cast-n
-    cast-y
-    cast-z
+    (λ c. search needs)
+    (λ c. search needs)
+    (λ c. search needs)
     mul-signed-by
     signed-by-requires
     mul-signed-by-2

@@ -10,10 +10,10 @@ use Rattle.envelope.specs.declared.Weights.{Weights}
 use Rattle.envelope.specs.Range.{effectOf, effectMost, WeightsInRange}
 use Rattle.envelope.specs.Envelope.{patternOf}
 use Rattle.envelope.proofs.Patterns.{pattern-in-range}
-use Rattle.sums.specs.declared.Directions.{Directions}
+use Rattle.directions.specs.declared.Directions.{Directions}
 use Rattle.sums.specs.Sums.{SumsOf}
-use Rattle.sums.specs.Four.{directed, FourOf, DirectionsInRange}
-use Rattle.sums.proofs.FourHeld.{directed-most}
+use Rattle.directions.specs.Four.{directed, FourOf, DirectionsInRange}
+use Rattle.directions.proofs.FourHeld.{directed-most}
 use Rattle.sums.proofs.Gathered.{summed}
 use Rattle.governing.specs.Ways.{Ready}
 use Rattle.governing.proofs.Ways.{ready, eight-are}
@@ -46,21 +46,6 @@ sums-ready s way most sums h =
     ready (s .args .s) sums kind e (s .pre .0 .below) (summed sums (s .args .places .now) kind e (s .pre .0 .are) h)
     (λ k. most (ways s k) (directed-most (s .args .effects .now) (patternOf (s .args .p) 0) (s .pre .1) (weights s (patternOf (s .args .p) 0) refl) k))
 
-pattern-weights-requires : tie.Need-pattern-weights-requires
-pattern-weights-requires c κs = search needs
-
-slice-aggregate-four-sums-of : tie.Need-slice-aggregate-four-sums-of
-slice-aggregate-four-sums-of c = search needs
-
-slice-aggregate-four-sums-of-2 : tie.Need-slice-aggregate-four-sums-of-2
-slice-aggregate-four-sums-of-2 c = search needs
-
-slice-aggregate-four-sums-of-3 : tie.Need-slice-aggregate-four-sums-of-3
-slice-aggregate-four-sums-of-3 c = search needs
-
-slice-aggregate-four-sums-of-4 : tie.Need-slice-aggregate-four-sums-of-4
-slice-aggregate-four-sums-of-4 c = search needs
-
 four-sums-of-requires : tie.Need-four-sums-of-requires
 four-sums-of-requires c κs =
     let w = c .before .before .before .before in
@@ -73,18 +58,6 @@ four-sums-of-requires c κs =
       s .pre .1,
       weights s (w .pattern-weights .result) (w .pattern-weights .ensures),
     )
-
-slice-aggregate-highest : tie.Need-slice-aggregate-highest
-slice-aggregate-highest c = search needs
-
-slice-aggregate-highest-2 : tie.Need-slice-aggregate-highest-2
-slice-aggregate-highest-2 c = search needs
-
-slice-aggregate-highest-3 : tie.Need-slice-aggregate-highest-3
-slice-aggregate-highest-3 c = search needs
-
-slice-aggregate-highest-4 : tie.Need-slice-aggregate-highest-4
-slice-aggregate-highest-4 c = search needs
 
 highest-requires : tie.Need-highest-requires
 highest-requires c κs =
@@ -112,15 +85,15 @@ pub peak-of-spec : {M : Type 1} → statement M
 peak-of-spec =
     tie.close
     (tie.spec
-    pattern-weights-requires
-    slice-aggregate-four-sums-of
-    slice-aggregate-four-sums-of-2
-    slice-aggregate-four-sums-of-3
-    slice-aggregate-four-sums-of-4
+    (λ c κs. search needs)
+    (λ c. search needs)
+    (λ c. search needs)
+    (λ c. search needs)
+    (λ c. search needs)
     four-sums-of-requires
-    slice-aggregate-highest
-    slice-aggregate-highest-2
-    slice-aggregate-highest-3
-    slice-aggregate-highest-4
+    (λ c. search needs)
+    (λ c. search needs)
+    (λ c. search needs)
+    (λ c. search needs)
     highest-requires
     returns)

@@ -9,9 +9,6 @@ use Rattle.integers.proofs.Machine.{read}
 use Rattle.station.proofs.signed_by.Statement.{statement}
 use Rattle.station.proofs.signed_by.Tie as tie
 
-signed-requires : tie.Need-signed-requires
-signed-requires c κs = search needs
-
 weight-read : (c : tie.After-signed) → toZ w64 (ofZ w64 (c .signed .result)) ≡ pos (c .before .args .x)
 weight-read c = read (c .signed .result) (c .signed .ok) ∙ c .signed .ensures
 
@@ -27,4 +24,4 @@ returns-2 : tie.Need-returns-2
 returns-2 c = rw (c .if1 .left) (weight-read (c .before))
 
 pub signed-by-spec : {M : Type 1} → statement M
-signed-by-spec = tie.close (tie.spec signed-requires negated-requires returns returns-2)
+signed-by-spec = tie.close (tie.spec (λ c κs. search needs) negated-requires returns returns-2)

@@ -75,20 +75,11 @@ value-small c =
 places-of-requires : tie.Need-places-of-requires
 places-of-requires c κs = let s = c .before in record { long = s .pre .0 .kinds-long; range = s .pre .0 .kinds-range }
 
-slice-aggregate-peak-of : tie.Need-slice-aggregate-peak-of
-slice-aggregate-peak-of c = search needs
-
 peak-of-requires : tie.Need-peak-of-requires
 peak-of-requires c κs =
     let p = c .before in
     let s = p .before .before in
     (record { kind = kind s; below = below s; are = p .places-of .ensures }, in-range s, s .pre .1)
-
-pattern-weights-requires : tie.Need-pattern-weights-requires
-pattern-weights-requires c κs = search needs
-
-slice-aggregate-sets-by : tie.Need-slice-aggregate-sets-by
-slice-aggregate-sets-by c = search needs
 
 sets-by-requires : tie.Need-sets-by-requires
 sets-by-requires c κs =
@@ -125,9 +116,6 @@ magnitude-requires c κs =
     let x = c .before in
     rw (back (x .extreme .result .value) (extreme-small x)) (extreme-small x)
 
-denominator-of-requires : tie.Need-denominator-of-requires
-denominator-of-requires c κs = search needs
-
 returns : tie.Need-returns
 unfolding utilisedOf
 returns c =
@@ -163,12 +151,12 @@ utilisation-of-spec =
     tie.close
     (tie.spec
     places-of-requires
-    slice-aggregate-peak-of
+    (λ c. search needs)
     peak-of-requires
-    pattern-weights-requires
-    slice-aggregate-sets-by
+    (λ c κs. search needs)
+    (λ c. search needs)
     sets-by-requires
     extreme-requires
     magnitude-requires
-    denominator-of-requires
+    (λ c κs. search needs)
     returns)

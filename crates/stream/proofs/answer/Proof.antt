@@ -8,41 +8,11 @@ use borrow.Author.Needs.{needs}
 use Rattle.stream.proofs.answer.Statement.{statement}
 use Rattle.stream.proofs.answer.Tie as tie
 
-sub-read-in : tie.Need-sub-read-in
-sub-read-in c = search needs
-
-part-read-in-start : tie.Need-part-read-in-start
-part-read-in-start c = search needs
-
-part-read-in-end : tie.Need-part-read-in-end
-part-read-in-end c = search needs
-
-sub-read-in-2 : tie.Need-sub-read-in-2
-sub-read-in-2 c = search needs
-
-part-read-in-start-2 : tie.Need-part-read-in-start-2
-part-read-in-start-2 c = search needs
-
-part-read-in-end-2 : tie.Need-part-read-in-end-2
-part-read-in-end-2 c = search needs
-
-read-in-requires : tie.Need-read-in-requires
-read-in-requires c κs = search needs
-
-is-last-requires : tie.Need-is-last-requires
-is-last-requires c κs = search needs
-
-add-t14 : tie.Need-add-t14
-add-t14 c = search needs
-
 add-t18 : tie.Need-add-t18
 add-t18 c =
     let f = c .before .before .before .before .before .before in
     let a = f .before .before .before .before .before .before .before in
     omega (arith, f .read-in .ensures .1 .written, length-take (length (a .args .output .now) - a .args .p .written) (drop (a .args .p .written) (a .args .output .now)), length-drop (a .args .p .written) (a .args .output .now), a .pre .0 .written)
-
-same-length : tie.Need-same-length
-same-length c = search needs
 
 returns : tie.Need-returns
 returns c =
@@ -54,15 +24,15 @@ pub answer-spec : {M : Type 1} → statement M
 answer-spec =
     tie.close
     (tie.spec
-    sub-read-in
-    part-read-in-start
-    part-read-in-end
-    sub-read-in-2
-    part-read-in-start-2
-    part-read-in-end-2
-    read-in-requires
-    is-last-requires
-    add-t14
+    (λ c. search needs)
+    (λ c. search needs)
+    (λ c. search needs)
+    (λ c. search needs)
+    (λ c. search needs)
+    (λ c. search needs)
+    (λ c κs. search needs)
+    (λ c κs. search needs)
+    (λ c. search needs)
     add-t18
-    same-length
+    (λ c. search needs)
     returns)

@@ -19,9 +19,6 @@ loop-holds c =
     let a = c .before .before in
     going-start _ _ _ _ _ refl refl refl (a .pre .0) (a .pre .1)
 
-step-requires : tie.Need-step-requires Inv-loop μ-loop
-step-requires c κs = search needs
-
 loop-less : tie.Need-loop-less Inv-loop μ-loop
 loop-less c =
     let s = c .before .before in
@@ -41,4 +38,4 @@ returns c = (going-end (c .before .loop .inv) (c .loop-test .left), c .before .l
 pub answer-all-spec : {M : Type 1} → statement M
 answer-all-spec =
     tie.close
-    (tie.spec Inv-loop μ-loop loop-holds step-requires loop-less loop-again same-length returns)
+    (tie.spec Inv-loop μ-loop loop-holds (λ c κs. search needs) loop-less loop-again same-length returns)

@@ -5,12 +5,9 @@ use borrow.Author.Needs.{needs}
 use Rattle.stream.proofs.is_next.Statement.{statement}
 use Rattle.stream.proofs.is_next.Tie as tie
 
-is-ready-requires : tie.Need-is-ready-requires
-is-ready-requires c κs = search needs
-
 returns : tie.Need-returns
 unfolding isNext
 returns c = rw (c .is-ready .ensures)
 
 pub is-next-spec : {M : Type 1} → statement M
-is-next-spec = tie.close (tie.spec is-ready-requires returns)
+is-next-spec = tie.close (tie.spec (λ c κs. search needs) returns)

@@ -5,29 +5,11 @@ use borrow.Author.Needs.{needs}
 use Rattle.stream.proofs.step.Statement.{statement}
 use Rattle.stream.proofs.step.Tie as tie
 
-sub-is-next : tie.Need-sub-is-next
-sub-is-next c = search needs
-
-sub-is-next-2 : tie.Need-sub-is-next-2
-sub-is-next-2 c = search needs
-
-part-is-next-start : tie.Need-part-is-next-start
-part-is-next-start c = search needs
-
-part-is-next-end : tie.Need-part-is-next-end
-part-is-next-end c = search needs
-
-is-next-requires : tie.Need-is-next-requires
-is-next-requires c κs = search needs
-
 answer-requires : tie.Need-answer-requires
 answer-requires c κs =
     let f = c .before .before .before in
     let a = f .before .before .before .before in
     (a .pre, next-room (a .args .p) (a .args .effects .now) (a .args .input .now) (a .args .output .now) (a .args .ended) (f .is-next .ensures) (a .pre .written) (c .before .before .if1 .taken))
-
-same-length : tie.Need-same-length
-same-length c = search needs
 
 returns : tie.Need-returns
 returns c =
@@ -46,12 +28,12 @@ pub step-spec : {M : Type 1} → statement M
 step-spec =
     tie.close
     (tie.spec
-    sub-is-next
-    sub-is-next-2
-    part-is-next-start
-    part-is-next-end
-    is-next-requires
+    (λ c. search needs)
+    (λ c. search needs)
+    (λ c. search needs)
+    (λ c. search needs)
+    (λ c κs. search needs)
     answer-requires
-    same-length
+    (λ c. search needs)
     returns
     returns-2)

@@ -11,21 +11,6 @@ use Rattle.sums.proofs.acts_alone.Tie as tie
 alone-of : (v : tie.After-class-of) (q : Class) → v .class-of .result ≡ q → alone q ≡ alone (classOf (v .before .args .kind))
 alone-of v q e = sym (ap alone (sym (v .class-of .ensures) ∙ e))
 
-class-of-requires : tie.Need-class-of-requires
-class-of-requires c κs = search needs
-
-enum-told : tie.Need-enum-told
-enum-told c = search needs
-
-enum-told-2 : tie.Need-enum-told-2
-enum-told-2 c = search needs
-
-enum-told-3 : tie.Need-enum-told-3
-enum-told-3 c = search needs
-
-enum-told-4 : tie.Need-enum-told-4
-enum-told-4 c = search needs
-
 returns : tie.Need-returns
 returns c = alone-of (c .before .before) _ (c .enum-told .given .1)
 
@@ -42,11 +27,11 @@ pub acts-alone-spec : {M : Type 1} → statement M
 acts-alone-spec =
     tie.close
     (tie.spec
-    class-of-requires
-    enum-told
-    enum-told-2
-    enum-told-3
-    enum-told-4
+    (λ c κs. search needs)
+    (λ c. search needs)
+    (λ c. search needs)
+    (λ c. search needs)
+    (λ c. search needs)
     returns
     returns-2
     returns-3

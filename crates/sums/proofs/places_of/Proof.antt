@@ -23,9 +23,6 @@ abbrev μ-loop : tie.MeasureT-loop
 loop-holds : tie.Need-loop-holds Inv-loop μ-loop
 loop-holds c = (omega arith, refl, no-places (kindOf (c .args .kinds .now)))
 
-shared-slice-read-kind : tie.Need-shared-slice-read-kind Inv-loop μ-loop
-shared-slice-read-kind c = search needs
-
 cast-kind : tie.Need-cast-kind Inv-loop μ-loop
 cast-kind c = let h = c .before .before in omega (arith, h .before .pre .range (h .loop .k))
 
@@ -48,12 +45,6 @@ mul-bit : tie.Need-mul-bit Inv-loop μ-loop
 mul-bit c =
     let h = c .before .before .before in
     omega (arith, bit-fits (h .loop .places) (kindOf (h .before .args .kinds .now)) (h .loop .k) (h .loop .bit) (h .loop .inv .2) (h .loop .inv .1) (omega arith))
-
-add-k : tie.Need-add-k Inv-loop μ-loop
-add-k c = search needs
-
-loop-less : tie.Need-loop-less Inv-loop μ-loop
-loop-less c = search needs
 
 loop-again : tie.Need-loop-again Inv-loop μ-loop
 loop-again c =
@@ -85,14 +76,14 @@ places-of-spec =
     Inv-loop
     μ-loop
     loop-holds
-    shared-slice-read-kind
+    (λ c. search needs)
     cast-kind
     mul-places
     array-read-places
     add-places
     array-write-places
     mul-bit
-    add-k
-    loop-less
+    (λ c. search needs)
+    (λ c. search needs)
     loop-again
     returns)

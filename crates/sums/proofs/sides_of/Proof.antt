@@ -49,9 +49,6 @@ small s k = omega (arith, s .pre .1 .range (k * 3 + s .args .component))
 loop-holds : tie.Need-loop-holds Inv-loop μ-loop
 loop-holds c = walk-from caseCount (c .args .set) (made c) _ (c .pre .0) (no-sides (c .args .compared) (has (c .args .set)) (effect c))
 
-lowest-requires : tie.Need-lowest-requires Inv-loop μ-loop
-lowest-requires c κs = search needs
-
 mul-at : tie.Need-mul-at Inv-loop μ-loop
 mul-at c = omega (arith, met c .inside)
 
@@ -64,9 +61,6 @@ mul-widen c = omega (arith, met c .inside, c .before .before .before .pre .2)
 shared-slice-copy-out-widen : tie.Need-shared-slice-copy-out-widen Inv-loop μ-loop
 shared-slice-copy-out-widen c = let s = c .before .before .before in omega (arith, met c .inside, s .pre .1 .long, s .pre .2)
 
-widen-requires : tie.Need-widen-requires Inv-loop μ-loop
-widen-requires c κs = search needs
-
 with-effect-requires : tie.Need-with-effect-requires Inv-loop μ-loop
 with-effect-requires c κs =
     let l = c .before .before in
@@ -74,9 +68,6 @@ with-effect-requires c κs =
     let s = h .before in
     rw (read (c .widen .result) (c .widen .ok), read-effect c, met l .gathered)
     (sides-room (s .args .compared) (has (s .args .set)) (effect s) (small s) (l .lowest .result) (met l .inside))
-
-without-lowest-requires : tie.Need-without-lowest-requires Inv-loop μ-loop
-without-lowest-requires c κs = search needs
 
 loop-less : tie.Need-loop-less Inv-loop μ-loop
 loop-less c =
@@ -113,14 +104,14 @@ sides-of-spec =
     Inv-loop
     μ-loop
     loop-holds
-    lowest-requires
+    (λ c κs. search needs)
     mul-at
     add-at
     mul-widen
     shared-slice-copy-out-widen
-    widen-requires
+    (λ c κs. search needs)
     with-effect-requires
-    without-lowest-requires
+    (λ c κs. search needs)
     loop-less
     loop-again
     returns)

@@ -27,23 +27,11 @@ abbrev μ-loop : tie.MeasureT-loop
 loop-holds : tie.Need-loop-holds Inv-loop μ-loop
 loop-holds c = (omega arith, omega arith, no-kinds _ _ _ refl)
 
-acts-alone-requires : tie.Need-acts-alone-requires Inv-loop μ-loop
-acts-alone-requires c κs = search needs
-
-mul-sides-of : tie.Need-mul-sides-of Inv-loop μ-loop
-mul-sides-of c = search needs
-
-shared-slice-read-sides-of : tie.Need-shared-slice-read-sides-of Inv-loop μ-loop
-shared-slice-read-sides-of c = search needs
-
 sides-of-requires : tie.Need-sides-of-requires Inv-loop μ-loop
 sides-of-requires c κs =
     let h = c .before .before .before in
     let s = h .before .before in
     (s .pre .0 .each (h .loop .kind) (h .loop .inv .0) (omega arith), s .pre .1, s .pre .2)
-
-slice-aggregate-put-sides : tie.Need-slice-aggregate-put-sides Inv-loop μ-loop
-slice-aggregate-put-sides c = search needs
 
 put-sides-requires : tie.Need-put-sides-requires Inv-loop μ-loop
 put-sides-requires c κs =
@@ -57,12 +45,6 @@ put-sides-requires c κs =
       subst SidesInRange (sym (x .sides-of .ensures))
           (sides-in-range _ (has (getD (a .places .now) (h .loop .kind) 0)) e (λ k. omega (arith, s .pre .1 .range (k * 3 + a .component))) caseCount (omega arith)),
     )
-
-add-kind : tie.Need-add-kind Inv-loop μ-loop
-add-kind c = search needs
-
-loop-less : tie.Need-loop-less Inv-loop μ-loop
-loop-less c = search needs
 
 loop-again : tie.Need-loop-again Inv-loop μ-loop
 loop-again c =
@@ -94,13 +76,13 @@ sums-of-spec =
     Inv-loop
     μ-loop
     loop-holds
-    acts-alone-requires
-    mul-sides-of
-    shared-slice-read-sides-of
+    (λ c κs. search needs)
+    (λ c. search needs)
+    (λ c. search needs)
     sides-of-requires
-    slice-aggregate-put-sides
+    (λ c. search needs)
     put-sides-requires
-    add-kind
-    loop-less
+    (λ c. search needs)
+    (λ c. search needs)
     loop-again
     returns)

@@ -12,12 +12,6 @@ use Rattle.sums.proofs.Held.{compared-sides, added-sides}
 use Rattle.sums.proofs.with_effect.Statement.{statement}
 use Rattle.sums.proofs.with_effect.Tie as tie
 
-greater-requires : tie.Need-greater-requires
-greater-requires c κs = search needs
-
-lesser-requires : tie.Need-lesser-requires
-lesser-requires c κs = search needs
-
 returns : tie.Need-returns
 returns c =
     let g = c .before .before in
@@ -28,9 +22,6 @@ returns c =
     compared-sides (a .s) (a .x) _ _ r (a .compared) (g .before .before .if1 .taken)
     (read (g .greater .result) (g .greater .ok) ∙ g .greater .ensures ∙ (λ i. pos (max (up (back (a .s .above) (r .above-fits) i)) (up (x i)))))
     (read (c .lesser .result) (c .lesser .ok) ∙ c .lesser .ensures ∙ (λ i. negℤ (pos (max (down (back (a .s .below) (r .below-fits) i)) (down (x i))))))
-
-above-zero-requires : tie.Need-above-zero-requires
-above-zero-requires c κs = search needs
 
 added-requires : tie.Need-added-requires
 added-requires c κs =
@@ -72,10 +63,10 @@ pub with-effect-spec : {M : Type 1} → statement M
 with-effect-spec =
     tie.close
     (tie.spec
-    greater-requires
-    lesser-requires
+    (λ c κs. search needs)
+    (λ c κs. search needs)
     returns
-    above-zero-requires
+    (λ c κs. search needs)
     added-requires
     below-zero-requires
     added-requires-2

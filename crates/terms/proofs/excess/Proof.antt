@@ -30,12 +30,6 @@ negated-read : (c : tie.After-negated) → let a = c .before .before .before .be
     toZ w64 (ofZ w64 (c .negated .result)) ≡ negℤ (pos (heldAt (a .sums .now) (a .kind) (a .under)))
 negated-read c = read (c .negated .result) (c .negated .ok) ∙ c .negated .ensures ∙ ap negℤ (minus-read (c .before))
 
-held-requires : tie.Need-held-requires
-held-requires c κs = search needs
-
-held-requires-2 : tie.Need-held-requires-2
-held-requires-2 c κs = search needs
-
 negated-requires : tie.Need-negated-requires
 negated-requires c κs = rw (minus-read c) (omega (arith, under-most (c .before .before .before)))
 
@@ -52,4 +46,4 @@ returns c =
 
 pub excess-spec : {M : Type 1} → statement M
 excess-spec =
-    tie.close (tie.spec held-requires held-requires-2 negated-requires added-requires returns)
+    tie.close (tie.spec (λ c κs. search needs) (λ c κs. search needs) negated-requires added-requires returns)

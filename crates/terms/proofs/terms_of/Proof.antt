@@ -27,55 +27,19 @@ back {r} h e = read r h ∙ e
 above : (r : ℤ) (n : ℕ) → r ≡ pos n → r ≡ pos (up r)
 above r n e = e ∙ ap pos (sym (ap up e))
 
-excess-requires : tie.Need-excess-requires
-excess-requires c κs = search needs
-
-excess-requires-2 : tie.Need-excess-requires-2
-excess-requires-2 c κs = search needs
-
-held-requires : tie.Need-held-requires
-held-requires c κs = search needs
-
-held-requires-2 : tie.Need-held-requires-2
-held-requires-2 c κs = search needs
-
 added-requires : tie.Need-added-requires
 added-requires c κs =
     let s = c .before .before .before .before .before in
     rw (back (c .before .held .ok) (c .before .held .ensures), back (c .held2 .ok) (c .held2 .ensures))
     (omega (arith, held-most s 3 (s .args .over) (omega arith) (omega arith) (s .pre .1), held-most s 4 (s .args .over) (omega arith) (omega arith) (s .pre .1)))
 
-held-requires-3 : tie.Need-held-requires-3
-held-requires-3 c κs = search needs
-
 negated-requires : tie.Need-negated-requires
 negated-requires c κs =
     let s = c .before .before .before .before .before .before .before in
     rw (back (c .held3 .ok) (c .held3 .ensures)) (omega (arith, held-most s 3 (s .args .under) (omega arith) (omega arith) (s .pre .2)))
 
-held-requires-4 : tie.Need-held-requires-4
-held-requires-4 c κs = search needs
-
-held-requires-5 : tie.Need-held-requires-5
-held-requires-5 c κs = search needs
-
-held-requires-6 : tie.Need-held-requires-6
-held-requires-6 c κs = search needs
-
 greater-requires : tie.Need-greater-requires
 greater-requires c κs = above _ _ (back (c .before .held5 .ok) (c .before .held5 .ensures))
-
-held-requires-7 : tie.Need-held-requires-7
-held-requires-7 c κs = search needs
-
-held-requires-8 : tie.Need-held-requires-8
-held-requires-8 c κs = search needs
-
-held-requires-9 : tie.Need-held-requires-9
-held-requires-9 c κs = search needs
-
-held-requires-10 : tie.Need-held-requires-10
-held-requires-10 c κs = search needs
 
 returns : tie.Need-returns
 unfolding termsBy
@@ -111,19 +75,19 @@ pub terms-of-spec : {M : Type 1} → statement M
 terms-of-spec =
     tie.close
     (tie.spec
-    excess-requires
-    excess-requires-2
-    held-requires
-    held-requires-2
+    (λ c κs. search needs)
+    (λ c κs. search needs)
+    (λ c κs. search needs)
+    (λ c κs. search needs)
     added-requires
-    held-requires-3
+    (λ c κs. search needs)
     negated-requires
-    held-requires-4
-    held-requires-5
-    held-requires-6
+    (λ c κs. search needs)
+    (λ c κs. search needs)
+    (λ c κs. search needs)
     greater-requires
-    held-requires-7
-    held-requires-8
-    held-requires-9
-    held-requires-10
+    (λ c κs. search needs)
+    (λ c κs. search needs)
+    (λ c κs. search needs)
+    (λ c κs. search needs)
     returns)

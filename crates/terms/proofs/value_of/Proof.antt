@@ -105,9 +105,6 @@ flood-told c =
     gained-read (q .with-term4 .result) (o .before .args .t .flood)
     (omega (arith, own-told o .1, greater-told g .1, added-told d .1, wind-told w .small, quake-told q .small)) (omega arith) (c .with-term5 .ensures)
 
-own-value-requires : tie.Need-own-value-requires
-own-value-requires c κs = search needs
-
 with-term-requires : tie.Need-with-term-requires
 with-term-requires c κs = let s = c .before .before in (s .pre .0, omega arith, omega arith, s .pre .1, room-read (pos 0) (s .args .t .roof) (omega arith) (omega arith) (omega arith))
 
@@ -176,7 +173,7 @@ pub value-of-spec : {M : Type 1} → statement M
 value-of-spec =
     tie.close
     (tie.spec
-    own-value-requires
+    (λ c κs. search needs)
     with-term-requires
     with-term-requires-2
     greater-requires

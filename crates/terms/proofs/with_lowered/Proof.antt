@@ -30,21 +30,6 @@ factor-is c =
     c .signed .ensures
     ∙ ap pos (l .lower .ensures ∙ (λ i. min (l .before .low-factor .ensures i) (f .factor .ensures i)) ∙ sym (lower-is (f .before .args .s) (f .before .args .row)))
 
-factor-requires : tie.Need-factor-requires
-factor-requires c κs = search needs
-
-low-factor-requires : tie.Need-low-factor-requires
-low-factor-requires c κs = search needs
-
-lower-requires : tie.Need-lower-requires
-lower-requires c κs = search needs
-
-cast-signed : tie.Need-cast-signed
-cast-signed c = search needs
-
-signed-requires : tie.Need-signed-requires
-signed-requires c κs = search needs
-
 scaled-requires : tie.Need-scaled-requires
 scaled-requires c κs =
     let s = c .before .before .before .before in
@@ -64,10 +49,10 @@ pub with-lowered-spec : {M : Type 1} → statement M
 with-lowered-spec =
     tie.close
     (tie.spec
-    factor-requires
-    low-factor-requires
-    lower-requires
-    cast-signed
-    signed-requires
+    (λ c κs. search needs)
+    (λ c κs. search needs)
+    (λ c κs. search needs)
+    (λ c. search needs)
+    (λ c κs. search needs)
     scaled-requires
     returns)

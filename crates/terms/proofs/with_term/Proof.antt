@@ -21,15 +21,6 @@ limit s row kind = omega (arith, factor-le s row kind)
 factor-is : (c : tie.After-signed) → let a = c .before .before .args in c .signed .result ≡ pos (factorOf (a .s) (a .row) (a .kind))
 factor-is c = c .signed .ensures ∙ ap pos (c .before .factor .ensures)
 
-factor-requires : tie.Need-factor-requires
-factor-requires c κs = search needs
-
-cast-signed : tie.Need-cast-signed
-cast-signed c = search needs
-
-signed-requires : tie.Need-signed-requires
-signed-requires c κs = search needs
-
 scaled-requires : tie.Need-scaled-requires
 scaled-requires c κs =
     let s = c .before .before in
@@ -47,4 +38,4 @@ returns c =
 
 pub with-term-spec : {M : Type 1} → statement M
 with-term-spec =
-    tie.close (tie.spec factor-requires cast-signed signed-requires scaled-requires returns)
+    tie.close (tie.spec (λ c κs. search needs) (λ c. search needs) (λ c κs. search needs) scaled-requires returns)

@@ -9,18 +9,6 @@ use borrow.Author.Needs.{needs}
 use Rattle.wire.proofs.signed.Statement.{statement}
 use Rattle.wire.proofs.signed.Tie as tie
 
-cast-result : tie.Need-cast-result
-cast-result c = search needs
-
-sub-result : tie.Need-sub-result
-sub-result c = search needs
-
-cast-result-2 : tie.Need-cast-result-2
-cast-result-2 c = search needs
-
-returns : tie.Need-returns
-returns c = search needs
-
 returns-2 : tie.Need-returns-2
 returns-2 c =
     let raw = c .before .args .raw in
@@ -28,4 +16,4 @@ returns-2 c =
     ap (toZ w16) e
 
 pub signed-spec : {M : Type 1} → statement M
-signed-spec = tie.close (tie.spec cast-result sub-result cast-result-2 returns returns-2)
+signed-spec = tie.close (tie.spec (λ c. search needs) (λ c. search needs) (λ c. search needs) (λ c. search needs) returns-2)

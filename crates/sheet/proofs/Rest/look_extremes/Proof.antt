@@ -18,27 +18,6 @@ use borrow.Author.Needs.{needs}
 use Rattle.sheet.proofs.Rest.look_extremes.Statement.{statement}
 use Rattle.sheet.proofs.Rest.look_extremes.Tie as tie
 
-due-extremes-requires : tie.Need-due-extremes-requires
-due-extremes-requires c κs = search needs
-
-mul-from : tie.Need-mul-from
-mul-from c = search needs
-
-add-to : tie.Need-add-to
-add-to c = search needs
-
-slice-aggregate-extremes-of : tie.Need-slice-aggregate-extremes-of
-slice-aggregate-extremes-of c = search needs
-
-mul-extremes-of : tie.Need-mul-extremes-of
-mul-extremes-of c = search needs
-
-sub-extremes-of : tie.Need-sub-extremes-of
-sub-extremes-of c = search needs
-
-part-extremes-of-start : tie.Need-part-extremes-of-start
-part-extremes-of-start c = search needs
-
 part-extremes-of-end : tie.Need-part-extremes-of-end
 part-extremes-of-end c =
     let d = c .before .before .before in
@@ -74,13 +53,13 @@ pub look-extremes-spec : {M : Type 1} → statement M
 look-extremes-spec =
     tie.close
     (tie.spec
-    due-extremes-requires
-    mul-from
-    add-to
-    slice-aggregate-extremes-of
-    mul-extremes-of
-    sub-extremes-of
-    part-extremes-of-start
+    (λ c κs. search needs)
+    (λ c. search needs)
+    (λ c. search needs)
+    (λ c. search needs)
+    (λ c. search needs)
+    (λ c. search needs)
+    (λ c. search needs)
     part-extremes-of-end
     extremes-of-requires
     returns

@@ -37,59 +37,14 @@ held c e =
     let s = c .before .before .before .before .before in
     utilisation-range (capacityAt (whole (s .args .self) (s .args .effects .now)) (s .args .station) 0) (s .args .station) (sym (due-is c) ∙ e)
 
-mul-at : tie.Need-mul-at
-mul-at c = search needs
-
-slice-aggregate-number-at : tie.Need-slice-aggregate-number-at
-slice-aggregate-number-at c = search needs
-
-number-at-requires : tie.Need-number-at-requires
-number-at-requires c κs = search needs
-
-due-utilisation-requires : tie.Need-due-utilisation-requires
-due-utilisation-requires c κs = search needs
-
-mul-from : tie.Need-mul-from
-mul-from c = search needs
-
-add-to : tie.Need-add-to
-add-to c = search needs
-
-mul-t17 : tie.Need-mul-t17
-mul-t17 c = search needs
-
 array-read-t20 : tie.Need-array-read-t20
 array-read-t20 c = omega (arith, held (c .before) (c .if1 .taken) .0)
-
-add-t21 : tie.Need-add-t21
-add-t21 c = search needs
-
-mul-t22 : tie.Need-mul-t22
-mul-t22 c = search needs
 
 array-read-t25 : tie.Need-array-read-t25
 array-read-t25 c = omega (arith, held (c .before) (c .if1 .taken) .0)
 
-add-t26 : tie.Need-add-t26
-add-t26 c = search needs
-
-mul-t27 : tie.Need-mul-t27
-mul-t27 c = search needs
-
 array-read-t30 : tie.Need-array-read-t30
 array-read-t30 c = omega (arith, held (c .before) (c .if1 .taken) .0)
-
-slice-aggregate-utilisation-of : tie.Need-slice-aggregate-utilisation-of
-slice-aggregate-utilisation-of c = search needs
-
-mul-utilisation-of : tie.Need-mul-utilisation-of
-mul-utilisation-of c = search needs
-
-sub-utilisation-of : tie.Need-sub-utilisation-of
-sub-utilisation-of c = search needs
-
-part-utilisation-of-start : tie.Need-part-utilisation-of-start
-part-utilisation-of-start c = search needs
 
 part-utilisation-of-end : tie.Need-part-utilisation-of-end
 part-utilisation-of-end c =
@@ -130,24 +85,24 @@ pub look-utilisation-spec : {M : Type 1} → statement M
 look-utilisation-spec =
     tie.close
     (tie.spec
-    mul-at
-    slice-aggregate-number-at
-    number-at-requires
-    due-utilisation-requires
-    mul-from
-    add-to
-    mul-t17
+    (λ c. search needs)
+    (λ c. search needs)
+    (λ c κs. search needs)
+    (λ c κs. search needs)
+    (λ c. search needs)
+    (λ c. search needs)
+    (λ c. search needs)
     array-read-t20
-    add-t21
-    mul-t22
+    (λ c. search needs)
+    (λ c. search needs)
     array-read-t25
-    add-t26
-    mul-t27
+    (λ c. search needs)
+    (λ c. search needs)
     array-read-t30
-    slice-aggregate-utilisation-of
-    mul-utilisation-of
-    sub-utilisation-of
-    part-utilisation-of-start
+    (λ c. search needs)
+    (λ c. search needs)
+    (λ c. search needs)
+    (λ c. search needs)
     part-utilisation-of-end
     utilisation-of-requires
     returns

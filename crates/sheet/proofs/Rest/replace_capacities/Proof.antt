@@ -8,9 +8,6 @@ use borrow.Author.Needs.{needs}
 use Rattle.sheet.proofs.Rest.replace_capacities.Statement.{statement}
 use Rattle.sheet.proofs.Rest.replace_capacities.Tie as tie
 
-due-capacities-requires : tie.Need-due-capacities-requires
-due-capacities-requires c κs = search needs
-
 with-capacities-requires : tie.Need-with-capacities-requires
 with-capacities-requires c κs = capacities-range _ _ _ _ (sym (c .before .due-capacities .ensures) ∙ c .if1 .taken) .station
 
@@ -23,4 +20,4 @@ returns-2 c effects = part-due _ _ _ (c .before .due-capacities .ensures) (c .if
 
 pub replace-capacities-spec : {M : Type 1} → statement M
 replace-capacities-spec =
-    tie.close (tie.spec due-capacities-requires with-capacities-requires returns returns-2)
+    tie.close (tie.spec (λ c κs. search needs) with-capacities-requires returns returns-2)

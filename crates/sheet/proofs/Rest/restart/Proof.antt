@@ -6,18 +6,6 @@ use borrow.Author.Needs.{needs}
 use Rattle.sheet.proofs.Rest.restart.Statement.{statement}
 use Rattle.sheet.proofs.Rest.restart.Tie as tie
 
-due-settings-requires : tie.Need-due-settings-requires
-due-settings-requires c κs = search needs
-
-clear-all-requires : tie.Need-clear-all-requires
-clear-all-requires c κs = search needs
-
-of-requires : tie.Need-of-requires
-of-requires c κs = search needs
-
-fresh-requires : tie.Need-fresh-requires
-fresh-requires c κs = search needs
-
 returns : tie.Need-returns
 returns c =
     let z = c .before .before in
@@ -28,4 +16,4 @@ returns-2 : tie.Need-returns-2
 returns-2 c = part-due _ _ _ (c .before .due-settings .ensures) (c .if1 .left)
 
 pub restart-spec : {M : Type 1} → statement M
-restart-spec = tie.close (tie.spec due-settings-requires clear-all-requires of-requires fresh-requires returns returns-2)
+restart-spec = tie.close (tie.spec (λ c κs. search needs) (λ c κs. search needs) (λ c κs. search needs) (λ c κs. search needs) returns returns-2)

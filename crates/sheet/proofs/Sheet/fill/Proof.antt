@@ -5,17 +5,8 @@ use borrow.Author.Needs.{needs}
 use Rattle.sheet.proofs.Sheet.fill.Statement.{statement}
 use Rattle.sheet.proofs.Sheet.fill.Tie as tie
 
-rest-requires : tie.Need-rest-requires
-rest-requires c κs = search needs
-
-fill-requires : tie.Need-fill-requires
-fill-requires c κs = search needs
-
-with-effects-requires : tie.Need-with-effects-requires
-with-effects-requires c κs = search needs
-
 returns : tie.Need-returns
 returns c = c .with-effects .ensures ∙ rw (c .before .before .before .rest .ensures) at (c .before .fill .ensures)
 
 pub fill-spec : {M : Type 1} → statement M
-fill-spec = tie.close (tie.spec rest-requires fill-requires with-effects-requires returns)
+fill-spec = tie.close (tie.spec (λ c κs. search needs) (λ c κs. search needs) (λ c κs. search needs) returns)

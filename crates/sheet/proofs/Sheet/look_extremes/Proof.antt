@@ -7,12 +7,6 @@ use borrow.Author.Needs.{needs}
 use Rattle.sheet.proofs.Sheet.look_extremes.Statement.{statement}
 use Rattle.sheet.proofs.Sheet.look_extremes.Tie as tie
 
-rest-requires : tie.Need-rest-requires
-rest-requires c κs = search needs
-
-slice-aggregate-look-extremes : tie.Need-slice-aggregate-look-extremes
-slice-aggregate-look-extremes c = search needs
-
 look-extremes-requires : tie.Need-look-extremes-requires
 look-extremes-requires c κs = rw (c .before .rest .ensures) (c .before .before .before .pre)
 
@@ -25,4 +19,4 @@ returns c =
 
 pub look-extremes-spec : {M : Type 1} → statement M
 look-extremes-spec =
-    tie.close (tie.spec rest-requires slice-aggregate-look-extremes look-extremes-requires returns)
+    tie.close (tie.spec (λ c κs. search needs) (λ c. search needs) look-extremes-requires returns)

@@ -7,12 +7,6 @@ use borrow.Author.Needs.{needs}
 use Rattle.sheet.proofs.Sheet.look_utilisation.Statement.{statement}
 use Rattle.sheet.proofs.Sheet.look_utilisation.Tie as tie
 
-rest-requires : tie.Need-rest-requires
-rest-requires c κs = search needs
-
-slice-aggregate-look-utilisation : tie.Need-slice-aggregate-look-utilisation
-slice-aggregate-look-utilisation c = search needs
-
 look-utilisation-requires : tie.Need-look-utilisation-requires
 look-utilisation-requires c κs = rw (c .before .rest .ensures) (c .before .before .before .pre)
 
@@ -26,4 +20,4 @@ returns c =
 pub look-utilisation-spec : {M : Type 1} → statement M
 look-utilisation-spec =
     tie.close
-    (tie.spec rest-requires slice-aggregate-look-utilisation look-utilisation-requires returns)
+    (tie.spec (λ c κs. search needs) (λ c. search needs) look-utilisation-requires returns)

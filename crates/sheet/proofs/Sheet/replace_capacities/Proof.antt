@@ -5,18 +5,9 @@ use borrow.Author.Needs.{needs}
 use Rattle.sheet.proofs.Sheet.replace_capacities.Statement.{statement}
 use Rattle.sheet.proofs.Sheet.replace_capacities.Tie as tie
 
-rest-requires : tie.Need-rest-requires
-rest-requires c κs = search needs
-
-replace-capacities-requires : tie.Need-replace-capacities-requires
-replace-capacities-requires c κs = search needs
-
-with-effects-requires : tie.Need-with-effects-requires
-with-effects-requires c κs = search needs
-
 returns : tie.Need-returns
 returns c = c .with-effects .ensures ∙ rw (c .before .before .rest .ensures) at (c .before .replace-capacities .ensures (c .before .before .before .before .args .self .effects))
 
 pub replace-capacities-spec : {M : Type 1} → statement M
 replace-capacities-spec =
-    tie.close (tie.spec rest-requires replace-capacities-requires with-effects-requires returns)
+    tie.close (tie.spec (λ c κs. search needs) (λ c κs. search needs) (λ c κs. search needs) returns)

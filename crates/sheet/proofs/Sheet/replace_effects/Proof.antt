@@ -5,18 +5,9 @@ use borrow.Author.Needs.{needs}
 use Rattle.sheet.proofs.Sheet.replace_effects.Statement.{statement}
 use Rattle.sheet.proofs.Sheet.replace_effects.Tie as tie
 
-rest-requires : tie.Need-rest-requires
-rest-requires c κs = search needs
-
-replace-effects-requires : tie.Need-replace-effects-requires
-replace-effects-requires c κs = search needs
-
-with-effects-requires : tie.Need-with-effects-requires
-with-effects-requires c κs = search needs
-
 returns : tie.Need-returns
 returns c = c .with-effects .ensures ∙ rw (c .before .before .before .rest .ensures) at (c .before .replace-effects .ensures)
 
 pub replace-effects-spec : {M : Type 1} → statement M
 replace-effects-spec =
-    tie.close (tie.spec rest-requires replace-effects-requires with-effects-requires returns)
+    tie.close (tie.spec (λ c κs. search needs) (λ c κs. search needs) (λ c κs. search needs) returns)

@@ -1,0 +1,60 @@
+-- What `sums` holds of each kind, in the four directions of the weighed effects. Nothing here needs to be believed.
+use Prim.Native.Nat.{ℕ, _≤_}
+use mathlib.Core.Bool.{Bool, true, false}
+use mathlib.Core.List.{List}
+use lib.IntN.{ℤ, _*ℤ_, natAbs}
+use Rattle.envelope.specs.declared.Weights.{Weights}
+use Rattle.envelope.specs.Range.{effectMost}
+use Rattle.envelope.specs.Directions.{signsBy}
+use Rattle.directions.specs.declared.Directions.{Directions}
+use Rattle.directions.specs.declared.FourSides.{FourSides}
+use Rattle.sums.specs.Sums.{sidesIn, sidesWith, SidesInRange, SidesRoom, SumsOf}
+
+abbrev pub directionsOf : ℤ → ℤ → ℤ → Directions
+directionsOf a b c = record { first = signsBy false false a b c; second = signsBy true false a b c; third = signsBy false true a b c; fourth = signsBy true true a b c }
+
+abbrev pub directed : Weights → (ℕ → ℕ → ℤ) → ℕ → Directions
+directed w effect k = directionsOf (w .n *ℤ effect k 0) (w .y *ℤ effect k 1) (w .z *ℤ effect k 2)
+
+-- each is a weighed effect of a case
+pub record DirectionsInRange (d : Directions) : Type 0 where
+  pub first : natAbs (d .first) ≤ effectMost
+  pub second : natAbs (d .second) ≤ effectMost
+  pub third : natAbs (d .third) ≤ effectMost
+  pub fourth : natAbs (d .fourth) ≤ effectMost
+
+abbrev pub fourWith : Bool → FourSides → Directions → FourSides
+fourWith compared f d =
+    record {
+      first = sidesWith compared (f .first) (d .first);
+      second = sidesWith compared (f .second) (d .second);
+      third = sidesWith compared (f .third) (d .third);
+      fourth = sidesWith compared (f .fourth) (d .fourth);
+    }
+
+pub record FourInRange (f : FourSides) : Type 0 where
+  pub first : SidesInRange (f .first)
+  pub second : SidesInRange (f .second)
+  pub third : SidesInRange (f .third)
+  pub fourth : SidesInRange (f .fourth)
+
+pub record FourRoom (f : FourSides) (d : Directions) : Type 0 where
+  pub first : SidesRoom (f .first) (d .first)
+  pub second : SidesRoom (f .second) (d .second)
+  pub third : SidesRoom (f .third) (d .third)
+  pub fourth : SidesRoom (f .fourth) (d .fourth)
+
+abbrev pub fourIn : Bool → (ℕ → Bool) → (ℕ → Directions) → ℕ → FourSides
+fourIn compared p d n =
+    record {
+      first = sidesIn compared p (λ k. d k .first) n;
+      second = sidesIn compared p (λ k. d k .second) n;
+      third = sidesIn compared p (λ k. d k .third) n;
+      fourth = sidesIn compared p (λ k. d k .fourth) n;
+    }
+
+pub record FourOf (s0 s1 s2 s3 places : List ℕ) (d : ℕ → Directions) (m : ℕ) : Type 0 where
+  pub first : SumsOf s0 places (λ k. d k .first) m
+  pub second : SumsOf s1 places (λ k. d k .second) m
+  pub third : SumsOf s2 places (λ k. d k .third) m
+  pub fourth : SumsOf s3 places (λ k. d k .fourth) m

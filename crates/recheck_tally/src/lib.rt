@@ -1,0 +1,87 @@
+// The counts of a run of readings and their summary, and the buffers of the run.
+ghost use mathlib.Core.Path.{_≡_};
+ghost use lib.ListN.{length};
+use std::num::wrapping_add_u64;
+
+// Counts for the summary: readings, answered looks (tags 06 and 07) that were enumerated, those with too many load
+// cases for it, refusals due, refusals 14, differences, and the number of the first reading that differs (0: none).
+pub struct Tally {
+    pub readings: u64,
+    pub looks: u64,
+    pub large: u64,
+    pub refused: u64,
+    pub short: u64,
+    pub differences: u64,
+    pub first: u64,
+}
+
+// The counts wrap: no run comes near 2^64 readings, and the proof needs no bound.
+fn counted(n: u64, more: bool) -> u64 {
+    wrapping_add_u64(n, more as u64)
+}
+
+// A difference at this reading, where there is one.
+fn compared(t: Tally, ok: bool, number: u64) -> Tally {
+    let mut u = t;
+    u.differences = counted(t.differences, !ok);
+    if !ok & (t.first == 0) {
+        u.first = number;
+    }
+    u
+}
+
+// The tally after a reading with the short output.
+pub fn with_short(t: Tally, ok: bool) -> Tally {
+    let mut u = t;
+    u.short = counted(t.short, ok);
+    compared(u, ok, wrapping_add_u64(t.readings, 1))
+}
+
+// The tally after a reading: whether it was right, a look, a look too large to enumerate, a refusal.
+pub fn with_reading(t: Tally, ok: bool, looked: bool, skipped: bool, refused: bool) -> Tally {
+    let number = wrapping_add_u64(t.readings, 1);
+    let mut u = t;
+    u.readings = number;
+    u.looks = counted(t.looks, looked & !skipped);
+    u.large = counted(t.large, skipped);
+    u.refused = counted(t.refused, refused);
+    compared(u, ok, number)
+}
+
+// Whether every answer of the list was met; a list that is refused has none.
+pub fn with_list(t: Tally, listed: usize, n: usize) -> Tally {
+    let u = compared(t, n != 0, 1);
+    compared(u, n <= listed, t.readings)
+}
+
+fn put_count(n: u64, words: &[u8]) {
+    io::print_decimal(1, n);
+    io::write_all(1, words);
+}
+
+// Writes the counts on standard output.
+pub fn summary(t: Tally) {
+    if t.first != 0 {
+        io::write_all(1, b"first difference at reading ");
+        put_count(t.first, b"\n");
+    }
+    put_count(t.readings, b" readings, ");
+    put_count(t.looks, b" looks enumerated, ");
+    put_count(t.large, b" looks too large, ");
+    put_count(t.refused, b" refusals, ");
+    put_count(t.short, b" short outputs refused, ");
+    put_count(t.differences, b" differences\n");
+}
+
+// The buffers, each with its length in its contract, so that no proof of a caller counts its zeros.
+pub fn input_buffer() -> [u8; 262144]
+    ensures { λ r. ⌜ 262144 ≡ length r ⌝ }
+{
+    [0; 262144]
+}
+
+pub fn answers_buffer() -> [u8; 131072]
+    ensures { λ r. ⌜ 131072 ≡ length r ⌝ }
+{
+    [0; 131072]
+}

@@ -1,0 +1,93 @@
+-- The entry at a row and a kind's column is the kind's factor in the row; the live option reaches L alone.
+-- Assumes nothing.
+use borrow.Author.Needs.{needs}
+use borrow.Author.Tests.{eq-eqb, ne-eqb}
+use Prim.Native.Nat.{ℕ, _<_}
+use native.Mathlib.Omega.{arith}
+use mathlib.Core.Bool.{Bool, true, false}
+use mathlib.Core.List.{List, []}
+use mathlib.Core.Logic.{_⊎_, inl, inr}
+use mathlib.Core.Path.{_≡_, refl, sym, ap, _∙_}
+use lib.Dec.{eqb, ltb, ltb→lt}
+use lib.ListN.{getD}
+use lib.Seq.{getD-set-other}
+use Rattle.standard.specs.declared.Settings.{Settings}
+use Rattle.standard.specs.Kinds.{kindCount}
+use Rattle.standard.specs.Rows.{Line, lines, blank, rowCount, columns, liveFactor, factorOf}
+use Rattle.standard.specs.Columns.{entries, rowTable, kindColumns, columnOf}
+use Rattle.standard.proofs.Table.{at, same-at, all-at}
+use Rattle.rows.proofs.factor.Statement.{statement}
+use Rattle.rows.proofs.factor.Tie as tie
+
+column-below : (k : ℕ) → columnOf false k < 10
+unfolding columnOf
+column-below k = ltb→lt _ _ (all-at (λ x. ltb x 10) (kindColumns false) 0 tt tt k)
+
+in-column : (l : Line) (k : ℕ) → 0 < k → k < kindCount → getD (entries l) (columnOf false k) 0 ≡ getD (columns false l) k 0
+unfolding columnOf
+in-column l k p h = same-at (λ j. getD (entries l) (columnOf false j) 0) (λ j. getD (columns false l) j 0) 1 11 k refl p h
+
+row-entries : (r : ℕ) → r < rowCount → getD rowTable r [] ≡ entries (getD lines r blank)
+unfolding rowTable
+row-entries r h = at (λ i. entries (getD lines i blank)) [] rowCount r h
+
+-- where the option does not reach
+plain : (l : Line) (live k : ℕ) → (k ≡ 5 → ⊥) ⊎ (live ≡ 1 → ⊥) → getD (columns false l) k 0 ≡ getD (columns (eqb live 1) l) k 0
+plain l live k (inl n) = other (eqb live 1)
+  where
+    other : (t : Bool) → getD (columns false l) k 0 ≡ getD (columns t l) k 0
+    other true = sym (getD-set-other (columns false l) 5 k (liveFactor true (l .live)) 0 n)
+    other false = refl
+plain l live k (inr n) = ap (λ (t : Bool). getD (columns t l) k 0) (sym (ne-eqb live 1 n))
+
+below : (c : tie.After-column) → c .column .result < 10
+below c = omega (arith, c .column .ensures, column-below (c .before .args .kind))
+
+mul-plain-2 : tie.Need-mul-plain-2
+mul-plain-2 c = omega (arith, below c)
+
+index-2-plain : tie.Need-index-2-plain
+index-2-plain c = below c
+
+returns : tie.Need-returns
+unfolding factorOf
+returns c =
+    let s = c .before .before .before .before .before .before in
+    let a = s .args in
+    (λ i. getD (getD (s .pre .3 i) (a .row) []) 4 0)
+    ∙ ap (λ (l : List ℕ). getD l 4 0) (row-entries (a .row) (s .pre .0))
+    ∙ sym (λ i. getD (columns (eq-eqb (a .s .live) 1 (c .before .if1 .taken) i) (getD lines (a .row) blank)) (c .if2 .taken i) 0)
+
+-- an entry of the plain columns
+entry : (c : tie.After-column) → let a = c .before .args in (a .kind ≡ 5 → ⊥) ⊎ (a .s .live ≡ 1 → ⊥) →
+    getD (getD (a .table .now) (a .row) []) (c .column .result) 0 ≡ factorOf (a .s) (a .row) (a .kind)
+unfolding factorOf
+entry c spared =
+    let a = c .before .args in
+    let p = c .before .pre in
+    (λ i. getD (getD (p .3 i) (a .row) []) (c .column .ensures i) 0)
+    ∙ ap (λ (l : List ℕ). getD l (columnOf false (a .kind)) 0) (row-entries (a .row) (p .0))
+    ∙ in-column (getD lines (a .row) blank) (a .kind) (p .1) (p .2)
+    ∙ plain (getD lines (a .row) blank) (a .s .live) (a .kind) spared
+
+returns-2 : tie.Need-returns-2
+returns-2 c = entry (c .before .before .before .before .before) (inl (c .if2 .left))
+
+returns-3 : tie.Need-returns-3
+returns-3 c = entry (c .before .before .before .before) (inr (c .if1 .left))
+
+pub factor-spec : {M : Type 1} → statement M
+factor-spec =
+    tie.close
+    (tie.spec
+    (λ c κs. search needs)
+    (λ c. search needs)
+    mul-plain-2
+    (λ c. search needs)
+    index-2-plain
+    (λ c. search needs)
+    (λ c. search needs)
+    (λ c. search needs)
+    returns
+    returns-2
+    returns-3)

@@ -1,0 +1,68 @@
+-- The lines of the table of tags.
+-- Assumes nothing.
+use Prim.Native.Nat.{ℕ, zero, suc, _-_}
+use mathlib.Core.Bool.{Bool, true, false, cond}
+use mathlib.Core.Path.{_≡_, refl, sym, ap, subst}
+use lib.Dec.{eqb}
+use mathlib.Core.List.{List, [], _∷_}
+use lib.ListN.{getD}
+use Rattle.wire.specs.Bytes.{byteAt, wordAt, signed16}
+use Rattle.standard.specs.Rows.{settingsOf}
+use Rattle.sheet.specs.declared.Sheet.{Sheet}
+use Rattle.sheet.specs.declared.Answered.{Answered}
+use Rattle.sheet.specs.Sheet.{fresh, withKind, withEffects, withCapacities}
+use Rattle.refusals.specs.Refusals.{firstDue, dueSettings, dueFillAt, dueEffectsAt, dueEmptyAt, dueCapacities, dueExtremes, dueUtilisationAt}
+use Rattle.sheet.specs.Edits.{dueFill, dueEffects, dueEmpty, unlessRefused}
+use Rattle.sheet.specs.Looks.{lookedExtremes, lookedUtilisation, edited}
+use Rattle.refusals.proofs.Fits.{inside}
+use native.Mathlib.Omega.{arith}
+use Rattle.tags.specs.Tags.{unknownTag, extremesTag, utilisationTag, tags}
+use Rattle.tags.specs.Run.{ranBy, runOf}
+
+-- a look leaves the sheet, refused or not
+either-way : (t : Bool) (s : Sheet) → cond t s s ≡ s
+either-way true s = refl
+either-way false s = refl
+
+pub extremes-ran : (s : Sheet) (b : List ℕ) → ranBy extremesTag s b ≡ lookedExtremes s (byteAt b 0) (byteAt b 1)
+unfolding lookedExtremes dueExtremes
+extremes-ran s b = ap (λ (x : Sheet). record { answer = ranBy extremesTag s b .answer; sheet = x }) (either-way (eqb (firstDue (extremesTag .refusals s b)) 0) s)
+
+pub utilisation-ran : (s : Sheet) (b : List ℕ) → ranBy utilisationTag s b ≡ lookedUtilisation s (byteAt b 0)
+unfolding lookedUtilisation dueUtilisationAt
+utilisation-ran s b = ap (λ (x : Sheet). record { answer = ranBy utilisationTag s b .answer; sheet = x }) (either-way (eqb (firstDue (utilisationTag .refusals s b)) 0) s)
+
+-- what holds of each line of the table of tags holds of the field that runs
+module _ (P : Answered → Type 0) (s : Sheet) (tag : ℕ) (b : List ℕ) where
+  abbrev b0 : ℕ
+  b0 = byteAt b 0
+
+  abbrev b1 : ℕ
+  b1 = byteAt b 1
+
+  pub run-by :
+      P (edited (unlessRefused (dueSettings b0 b1 (byteAt b 2)) s (fresh (settingsOf b0 b1 (byteAt b 2))))) →
+      P (edited (unlessRefused (dueFill s b0 b1) s (withKind s b0 b1))) →
+      P (edited (unlessRefused (dueEffects s b0 b1 (wordAt b 2) (wordAt b 4) (wordAt b 6)) s (withEffects s b0 b1 (signed16 (wordAt b 2)) (signed16 (wordAt b 4)) (signed16 (wordAt b 6))))) →
+      P (edited (unlessRefused (dueEmpty s b0) s (withKind s b0 0))) →
+      P (edited (unlessRefused (dueCapacities b0 (wordAt b 1) (wordAt b 3) (wordAt b 5)) s (withCapacities s b0 (wordAt b 1) (wordAt b 3) (wordAt b 5)))) →
+      P (lookedExtremes s b0 b1) → P (lookedUtilisation s b0) → P (runOf s tag b)
+  unfolding runOf unlessRefused dueSettings dueFillAt dueEffectsAt dueEmptyAt dueCapacities
+  run-by p1 p2 p3 p4 p5 p6 p7 = at (tag - 1)
+    where
+      seventh : (k : ℕ) → P (ranBy (getD (utilisationTag ∷ []) k utilisationTag) s b)
+      seventh zero = subst P (sym (utilisation-ran s b)) p7
+      seventh (suc k) = subst P (sym (utilisation-ran s b)) p7
+
+      at : (k : ℕ) → P (ranBy (getD tags k utilisationTag) s b)
+      at zero = p1
+      at (suc zero) = p2
+      at (suc (suc zero)) = p3
+      at (suc (suc (suc zero))) = p4
+      at (suc (suc (suc (suc zero)))) = p5
+      at (suc (suc (suc (suc (suc zero))))) = subst P (sym (extremes-ran s b)) p6
+      at (suc (suc (suc (suc (suc (suc k)))))) = seventh k
+
+-- the arm of the match that is left
+pub last-tag : (tag : ℕ) → unknownTag tag ≡ false → (tag ≡ 1 → ⊥) → (tag ≡ 2 → ⊥) → (tag ≡ 3 → ⊥) → (tag ≡ 4 → ⊥) → (tag ≡ 5 → ⊥) → (tag ≡ 6 → ⊥) → tag ≡ 7
+last-tag tag e n1 n2 n3 n4 n5 n6 = let k = inside tag 7 e in omega (arith, k .0, k .1)

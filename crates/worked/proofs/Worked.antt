@@ -1,0 +1,146 @@
+-- The frames worked by hand hold: each is computed once over the table, and the computed extremes are those over all admissible combinations.
+-- Assumes nothing.
+use Prim.Native.Nat.{ℕ, _≤_}
+use native.Mathlib.Omega.{arith}
+use mathlib.Core.Bool.{Bool, true, false, not, _&&_, _||_}
+use mathlib.Core.List.{List, [], _∷_}
+use mathlib.Core.Logic.{_⊎_, inl, inr}
+use mathlib.Core.Path.{_≡_, refl, ap, subst}
+use lib.Dec.{T, eqb, leb, eqb→eq, leb→le}
+use lib.IntN.{ℤ, pos, negsuc, negℤ}
+use lib.ListN.{length, List·getD-eq-default}
+use Rattle.integers.specs.Sums.{sum, most}
+use Rattle.integers.proofs.Tests.{and-left, and-right}
+use Rattle.standard.specs.declared.Settings.{Settings}
+use Rattle.standard.specs.declared.Capacities.{Capacities}
+use Rattle.standard.specs.Kinds.{classOf}
+use Rattle.standard.specs.Rows.{factorOf, lowOf, plainRows, floodRows, openRows}
+use Rattle.standard.specs.Combination.{caseCount, denominatorOf}
+use Rattle.standard.specs.Governing.{Maximum, Minimum, Utilisation}
+use Rattle.optimum.specs.Row.{lowerOf, leastOf, greatestOf, groupOf, rowMaximum}
+use Rattle.envelope.specs.declared.Extreme.{Extreme}
+use Rattle.envelope.specs.declared.Utilised.{Utilised}
+use Rattle.envelope.specs.Range.{kindOf, listed}
+use Rattle.envelope.specs.Envelope.{bestFrom, bestAmong, bestOver, bestOf, governingOf, extremeIn, extremeOf, negatedOf, patternOf, peakOf, utilisedOf}
+use Rattle.envelope.proofs.Maximum.{namedBy, extreme-maximum, extreme-minimum}
+use Rattle.envelope.proofs.Utilisation.{namedIn, utilisation-greatest}
+use Rattle.worked.specs.Worked.{Frame, Claim, maximum, minimum, maximumInRow, utilisation, onlyN, Holds, Entry, worked, All, WorkedByHand}
+
+same : ℤ → ℤ → Bool
+same (pos a) (pos b) = eqb a b
+same (pos a) (negsuc b) = false
+same (negsuc a) (pos b) = false
+same (negsuc a) (negsuc b) = eqb a b
+
+same-eq : (a b : ℤ) → T (same a b) → a ≡ b
+unfolding same
+same-eq (pos a) (pos b) t = ap pos (eqb→eq a b t)
+same-eq (pos a) (negsuc b) t = absurd t
+same-eq (negsuc a) (pos b) t = absurd t
+same-eq (negsuc a) (negsuc b) t = ap negsuc (eqb→eq a b t)
+
+alike : Bool → Bool → Bool
+alike true b = b
+alike false b = not b
+
+alike-eq : (a b : Bool) → T (alike a b) → a ≡ b
+unfolding alike
+alike-eq true true t = refl
+alike-eq true false t = absurd t
+alike-eq false true t = absurd t
+alike-eq false false t = refl
+
+known : Settings → Bool
+known s = eqb (s .method) 1 || eqb (s .method) 2
+
+known-method : (s : Settings) → T (known s) → (s .method ≡ 1) ⊎ (s .method ≡ 2)
+unfolding known
+known-method s t = go (eqb (s .method) 1) (eqb→eq (s .method) 1) t
+  where
+    go : (b : Bool) → (T b → s .method ≡ 1) → T (b || eqb (s .method) 2) → (s .method ≡ 1) ⊎ (s .method ≡ 2)
+    go true f u = inl (f tt)
+    go false f u = inr (eqb→eq (s .method) 2 u)
+
+-- a frame that the laws take: a known method, and no more cases than a sheet has
+fair : Frame → Bool
+fair f = known (f .settings) && leb (length (f .kinds)) caseCount
+
+module _ (f : Frame) (ok : T (fair f)) where
+  method : (f .settings .method ≡ 1) ⊎ (f .settings .method ≡ 2)
+  unfolding fair
+  method = known-method (f .settings) (and-left (known (f .settings)) (leb (length (f .kinds)) caseCount) ok)
+
+  empty : (k : ℕ) → caseCount ≤ k → kindOf (f .kinds) k ≡ 0
+  unfolding fair
+  empty k l =
+      let m : length (f .kinds) ≤ caseCount = leb→le (length (f .kinds)) caseCount (and-right (known (f .settings)) (leb (length (f .kinds)) caseCount) ok) in
+      List·getD-eq-default (f .kinds) 0 (omega arith)
+
+-- the two extremes and the utilisation of a frame, as they are computed
+abbrev greatest : Frame → Extreme
+greatest f = extremeOf (f .settings) (kindOf (f .kinds)) (listed (f .effects))
+
+abbrev least : Frame → Extreme
+least f = negatedOf (extremeOf (f .settings) (kindOf (f .kinds)) (λ k. negℤ (listed (f .effects) k)))
+
+abbrev used : Frame → Capacities → Utilised
+used f p = utilisedOf (f .settings) (kindOf (f .kinds)) (onlyN (f .effects)) p
+
+meets : Frame → Claim → Bool
+meets f (maximum v) = same (greatest f .value) v
+meets f (minimum v) = same (least f .value) v
+meets f (maximumInRow v row) = eqb (greatest f .row) row && same (greatest f .value) v
+meets f (utilisation p n d pass) = eqb (used f p .numerator) n && (eqb (used f p .denominator) d && alike (used f p .pass) pass)
+
+-- what is computed holds over all admissible combinations
+holds : (f : Frame) (c : Claim) → T (fair f) → T (meets f c) → Holds f c
+unfolding meets
+holds f (maximum v) ok t = (
+  namedBy (greatest f),
+  subst (Maximum (f .settings) (kindOf (f .kinds)) (listed (f .effects)) (namedBy (greatest f))) (same-eq (greatest f .value) v t)
+      (extreme-maximum (f .settings) (kindOf (f .kinds)) (method f ok) (empty f ok) (listed (f .effects))),
+)
+holds f (minimum v) ok t = (
+  namedBy (least f),
+  subst (Minimum (f .settings) (kindOf (f .kinds)) (listed (f .effects)) (namedBy (least f))) (same-eq (least f .value) v t)
+      (extreme-minimum (f .settings) (kindOf (f .kinds)) (method f ok) (empty f ok) (listed (f .effects))),
+)
+holds f (maximumInRow v row) ok t = (
+  namedBy (greatest f),
+  eqb→eq (greatest f .row) row (and-left (eqb (greatest f .row) row) (same (greatest f .value) v) t),
+  subst (Maximum (f .settings) (kindOf (f .kinds)) (listed (f .effects)) (namedBy (greatest f)))
+      (same-eq (greatest f .value) v (and-right (eqb (greatest f .row) row) (same (greatest f .value) v) t))
+      (extreme-maximum (f .settings) (kindOf (f .kinds)) (method f ok) (empty f ok) (listed (f .effects))),
+)
+holds f (utilisation p n d pass) ok t =
+    let u : Utilised = used f p in
+    let r = and-right (eqb (u .numerator) n) (eqb (u .denominator) d && alike (u .pass) pass) t in (
+      namedIn u,
+      subst (λ (b : Bool). Utilisation (f .settings) (kindOf (f .kinds)) (onlyN (f .effects)) p (namedIn u) n d b)
+          (alike-eq (u .pass) pass (and-right (eqb (u .denominator) d) (alike (u .pass) pass) r))
+          (subst (λ (y : ℕ). Utilisation (f .settings) (kindOf (f .kinds)) (onlyN (f .effects)) p (namedIn u) n y (u .pass))
+          (eqb→eq (u .denominator) d (and-left (eqb (u .denominator) d) (alike (u .pass) pass) r))
+          (subst (λ (x : ℕ). Utilisation (f .settings) (kindOf (f .kinds)) (onlyN (f .effects)) p (namedIn u) x (u .denominator) (u .pass))
+          (eqb→eq (u .numerator) n (and-left (eqb (u .numerator) n) (eqb (u .denominator) d && alike (u .pass) pass) t))
+          (utilisation-greatest (f .settings) (kindOf (f .kinds)) (method f ok) (empty f ok) (onlyN (f .effects)) p))),
+    )
+
+checks : List Entry → Bool
+checks [] = true
+checks (x ∷ xs) = (fair (x .of) && meets (x .of) (x .claim)) && checks xs
+
+each-holds : (xs : List Entry) → T (checks xs) → All xs
+unfolding checks
+each-holds [] t = tt
+each-holds (x ∷ xs) t =
+    let h = and-left (fair (x .of) && meets (x .of) (x .claim)) (checks xs) t in (
+      holds (x .of) (x .claim) (and-left (fair (x .of)) (meets (x .of) (x .claim)) h) (and-right (fair (x .of)) (meets (x .of) (x .claim)) h),
+      each-holds xs (and-right (fair (x .of) && meets (x .of) (x .claim)) (checks xs) t),
+    )
+
+table-checks : T (checks worked)
+unfolding checks fair known meets same alike extremeIn governingOf bestOf bestOver bestAmong bestFrom rowMaximum greatestOf leastOf lowerOf groupOf classOf factorOf lowOf plainRows floodRows openRows patternOf peakOf utilisedOf denominatorOf sum most
+table-checks = tt
+
+pub worked-by-hand : WorkedByHand
+worked-by-hand = each-holds worked table-checks

@@ -1,0 +1,129 @@
+-- SCOPE 11.1: frames P1 to P10, at one station with N only, as one table; after them
+-- further frames, each for a sentence of SCOPE 3 or 4 that none of these tries.
+use Prim.Native.Nat.{ℕ}
+use mathlib.Core.Bool.{Bool, true, false, cond}
+use mathlib.Core.List.{List, [], _∷_}
+use mathlib.Core.Path.{_≡_}
+use lib.Dec.{eqb}
+use lib.IntN.{ℤ, pos, negℤ}
+use Rattle.standard.specs.declared.Settings.{Settings}
+use Rattle.standard.specs.declared.Capacities.{Capacities}
+use Rattle.standard.specs.Combination.{Combination}
+use Rattle.standard.specs.Governing.{Maximum, Minimum, Utilisation}
+use Rattle.envelope.specs.Range.{kindOf, listed}
+
+-- settings, and the kind and the effect of each case, case 0 first
+pub record Frame : Type 0 where
+  pub settings : Settings
+  pub kinds : List ℕ
+  pub effects : List ℤ
+
+pub data Claim : Type 0 where
+  maximum minimum : ℤ → Claim
+  maximumInRow : ℤ → ℕ → Claim
+  utilisation : Capacities → (numerator denominator : ℕ) → (pass : Bool) → Claim
+
+abbrev pub onlyN : List ℤ → ℕ → ℕ → ℤ
+onlyN effects k j = cond (eqb j 0) (listed effects k) (pos 0)
+
+-- some combination reaches the number, and no admissible one is beyond it
+abbrev pub Holds : Frame → Claim → Type 0
+Holds f (maximum v) = (c : Combination) × Maximum (f .settings) (kindOf (f .kinds)) (listed (f .effects)) c v
+Holds f (minimum v) = (c : Combination) × Minimum (f .settings) (kindOf (f .kinds)) (listed (f .effects)) c v
+Holds f (maximumInRow v row) = (c : Combination) × (c .row ≡ row) × Maximum (f .settings) (kindOf (f .kinds)) (listed (f .effects)) c v
+Holds f (utilisation p n d pass) = (c : Combination) × Utilisation (f .settings) (kindOf (f .kinds)) (onlyN (f .effects)) p c n d pass
+
+-- the kinds that the cases have
+abbrev pub D : ℕ
+D = 1
+
+abbrev pub F : ℕ
+F = 2
+
+abbrev pub Hp : ℕ
+Hp = 3
+
+abbrev pub Hv : ℕ
+Hv = 4
+
+abbrev pub L : ℕ
+L = 5
+
+abbrev pub S : ℕ
+S = 7
+
+abbrev pub R : ℕ
+R = 8
+
+abbrev pub W : ℕ
+W = 9
+
+abbrev pub E : ℕ
+E = 10
+
+abbrev pub Fa : ℕ
+Fa = 11
+
+abbrev pub frame : (method live zone : ℕ) → List ℕ → List ℤ → Frame
+frame method live zone kinds effects = record { settings = record { method = method; live = live; zone = zone }; kinds = kinds; effects = effects }
+
+abbrev pub minus : ℕ → ℤ
+minus n = negℤ (pos n)
+
+abbrev pub p1 : Frame
+p1 = frame 1 0 0 [] []
+
+abbrev pub p2 : Frame
+p2 = frame 1 0 0 (D ∷ L ∷ W ∷ W ∷ []) (pos 100 ∷ pos 50 ∷ minus 200 ∷ pos 80 ∷ [])
+
+abbrev pub p5 : Frame
+p5 = frame 1 0 0 (W ∷ Hp ∷ []) (pos 100 ∷ minus 50 ∷ [])
+
+pub record Entry : Type 0 where
+  pub of : Frame
+  pub claim : Claim
+
+infixl 4 _says_
+abbrev pub _says_ : Frame → Claim → Entry
+f says c = record { of = f; claim = c }
+
+abbrev pub worked : List Entry
+worked =
+    (p1 says maximum (pos 0))
+    ∷ (p1 says minimum (pos 0))
+    ∷ (p2 says maximum (pos 250000))
+    ∷ (p2 says minimum (minus 110000))
+    ∷ (frame 1 1 0 (p2 .kinds) (p2 .effects) says maximum (pos 225000))
+    ∷ (p2 says utilisation (record { n = 250; y = 10; z = 10 }) 25000000 25000000 true)
+    ∷ (p2 says utilisation (record { n = 249; y = 10; z = 10 }) 25000000 24900000 false)
+    ∷ (p5 says maximum (pos 55000))
+    ∷ (p5 says minimum (minus 80000))
+    ∷ (frame 1 0 0 (W ∷ Hv ∷ []) (p5 .effects) says maximum (pos 100000))
+    ∷ (frame 1 0 1 (Fa ∷ W ∷ []) (pos 10 ∷ pos 100 ∷ []) says maximum (pos 120000))
+    ∷ (frame 1 0 2 (Fa ∷ W ∷ []) (pos 10 ∷ pos 100 ∷ []) says maximum (pos 100000))
+    ∷ (frame 2 0 0 (L ∷ E ∷ S ∷ []) (pos 40 ∷ pos 20 ∷ pos 8 ∷ []) says maximumInRow (pos 46500) 28)
+    ∷ (frame 1 0 0 (F ∷ W ∷ []) (minus 30 ∷ pos 100 ∷ []) says maximumInRow (pos 100000) 7)
+    ∷ (frame 1 0 0 (S ∷ R ∷ []) (pos 100 ∷ pos 100 ∷ []) says maximum (pos 160000))
+    -- at most one E, one W, one Fa
+    ∷ (frame 1 0 0 (E ∷ E ∷ []) (pos 100 ∷ pos 100 ∷ []) says maximum (pos 100000))
+    ∷ (frame 1 0 0 (W ∷ W ∷ []) (pos 100 ∷ pos 100 ∷ []) says maximum (pos 100000))
+    ∷ (frame 1 0 1 (Fa ∷ Fa ∷ []) (pos 100 ∷ pos 100 ∷ []) says maximum (pos 200000))
+    -- each Hp at the full factor or the low one, free of the others; the low one of method 2
+    ∷ (frame 1 0 0 (Hp ∷ Hp ∷ []) (pos 50 ∷ minus 50 ∷ []) says maximum (pos 35000))
+    ∷ (frame 2 0 0 (W ∷ Hp ∷ []) (p5 .effects) says maximum (pos 30000))
+    -- the live option leaves row 2; row 29 has no F; row 6 takes snow only
+    ∷ (frame 1 1 0 (L ∷ []) (pos 100 ∷ []) says maximumInRow (pos 160000) 2)
+    ∷ (frame 2 0 0 (F ∷ W ∷ []) (minus 30 ∷ pos 100 ∷ []) says maximumInRow (pos 60000) 29)
+    ∷ (frame 1 0 0 (R ∷ E ∷ []) (pos 10 ∷ pos 100 ∷ []) says maximum (pos 100000))
+    -- flood rows of method 2: no E beside Fa, and the factor of zone 2
+    ∷ (frame 2 0 1 (E ∷ Fa ∷ []) (pos 100 ∷ pos 100 ∷ []) says maximum (pos 150000))
+    ∷ (frame 2 0 2 (Fa ∷ []) (pos 100 ∷ []) says maximum (pos 75000))
+    ∷ []
+
+abbrev pub All : List Entry → Type 0
+All [] = Unit {0}
+All (x ∷ xs) = Holds (x .of) (x .claim) × All xs
+
+-- every entry of the table holds
+abbrev pub WorkedByHand : Type 0
+WorkedByHand = All worked
