@@ -1,42 +1,39 @@
-"""compare.py BINARY: runs BINARY on each stream of make.py and on the stored input, and names the field where a difference begins.
-Exit status 1 where anything differs."""
-import subprocess
-import sys
-import time
+#!/usr/bin/env python3
+"""compare.py BINARY [WORD..]: the answers to each stream of make.py and to the stored input are the model's. Exit status 1 where one
+differs."""
+import functools
+import checks
 import make
+from checks import TESTS, Failed, agrees, run
 
 
-def first_difference(stream, got, want):
+@functools.cache
+def streams():
+    return make.streams()
+
+
+def difference(stream, got, want):
+    """The reading where the answers begin to differ."""
     at = next((k for k, (x, y) in enumerate(zip(got, want)) if x != y), min(len(got), len(want)))
     pos = 0
     for n, (field, a) in enumerate(make.run(stream)[1]):
         if pos + len(a) > at:
-            return 'reading %d %s due %s got %s' % (n, field[:16].hex(), a.hex(), got[pos:pos + len(a)].hex())
+            return 'reading %d, %s: due %s, got %s' % (n, field[:16].hex(), a.hex(), got[pos:pos + len(a)].hex())
         pos += len(a)
     return 'after the last answer: %s' % got[pos:pos + 40].hex()
 
 
-def same(binary, name, stream, want):
-    start = time.time()
-    p = subprocess.run([binary], input=stream, capture_output=True, timeout=60)
-    ms = (time.time() - start) * 1e3
-    ok = p.stdout == want and p.returncode == 0 and not p.stderr
-    print('%-48s %s, status %d, %d bytes, %.1f ms' % (name, 'same' if ok else 'DIFFERENT', p.returncode, len(p.stdout), ms))
-    if p.stdout != want:
-        print('   ' + first_difference(stream, p.stdout, want))
-    if p.stderr:
-        print('   it said', p.stderr[:200])
-    return ok
+def answers_as_the_model(find, binary):
+    stream, want = find()
+    got = run(binary, stream)
+    if got.answers != want:
+        raise Failed(difference(stream, got.answers, want))
+    agrees(got, want)
 
 
-def main():
-    if len(sys.argv) != 2:
-        sys.exit(__doc__)
-    cases = sorted(make.streams().items()) + [('crates/frames/stdin', make.read_stored())]
-    bad = sum(not same(sys.argv[1], name, stream, want) for name, (stream, want) in cases)
-    print(bad, 'different of', len(cases))
-    sys.exit(bad != 0)
-
+for name in make.NAMES:
+    TESTS.append(('the answers are the model\'s: ' + name, functools.partial(answers_as_the_model, lambda name=name: streams()[name])))
+TESTS.append(('the answers are the model\'s: the stored input', functools.partial(answers_as_the_model, make.read_stored)))
 
 if __name__ == '__main__':
-    main()
+    checks.main(__doc__)

@@ -1,7 +1,7 @@
 #!/usr/bin/env python3
 """Makes the stored input and output of `frames` in crates/frames; compare.py takes further streams from here.
-The program is not needed: expected bytes are the scope document's, or are worked out by enumerating every admissible combination
-(model.py, made apart from the library)."""
+The program is not needed: expected bytes are those of docs/SCOPE.md and docs/FIELDS.md, or are worked out by enumerating every
+admissible combination (model.py, made apart from the library)."""
 import os
 import random
 import struct
@@ -101,7 +101,7 @@ def run(stream):
 
 
 def due(stream, numbers):
-    """The refusals of a stream are these, by the paper's table."""
+    """The refusals of a stream are these, by SCOPE 7.1."""
     got = [a[3] for _, a in run(stream)[1] if a[0] == 0x81]
     assert got == numbers, (got, numbers)
 
@@ -206,21 +206,21 @@ def orders():
     return b
 
 
-PAPER = [(0, 0), (250000, -110000), (225000, None), (25000000, 25000000), (25000000, 24900000), (55000, -80000), (100000, None), (120000, None),
+BY_HAND = [(0, 0), (250000, -110000), (225000, None), (25000000, 25000000), (25000000, 24900000), (55000, -80000), (100000, None), (120000, None),
          (100000, None), (46500, None), (100000, None), (160000, None)]
-PAPER_ROW = {9: 28, 10: 7}
+BY_HAND_ROW = {9: 28, 10: 7}
 
 
 def frames_by_hand():
-    """Point 4: P1 to P10 (P4 and P7 with two looks each), each number as the paper gives it."""
+    """Point 4: P1 to P10 (P4 and P7 with two looks each), each number as SCOPE 11.1 gives it."""
     b = b''
     for i, (fields, _, _) in enumerate(m.worked()):
         one = b''.join(fields)
         a = run(one)[1][-1][1]
         got = struct.unpack('>q', a[3:11])[0], struct.unpack('>q', a[20:28])[0] if a[0] == 0x86 else struct.unpack('>q', a[11:19])[0]
-        want = PAPER[i]
+        want = BY_HAND[i]
         assert got[0] == want[0] and want[1] in (None, got[1]), (i, got, want)
-        assert i not in PAPER_ROW or a[11] == PAPER_ROW[i]
+        assert i not in BY_HAND_ROW or a[11] == BY_HAND_ROW[i]
         if a[0] == 0x87:
             assert a[19] == int(i == 3)
         b += one
@@ -326,18 +326,21 @@ def stored():
     return whole, out
 
 
+MORE = {'2_empty_input': (b'', b''),
+        '2_length_60000_unknown_tag_is_1': (f(0x7F, bytes(60000)) + P2_IN, h('81000101') + P2_OUT),
+        '2_length_60000_known_tag_is_2': (f(1, bytes(60000)) + P2_IN, h('81000102') + P2_OUT),
+        '2_length_60001_wholly_there_is_3': (P2_IN + f(2, bytes(60001)) + P2_IN, P2_OUT + h('81000103'))}
+NAMES = list(POINTS) + ['2_' + k for k in CUT] + list(MORE)
+
+
 def streams():
-    """Further streams: name -> (input, output)."""
+    """Further streams, by NAMES: name -> (input, output)."""
     known = {'1_worked_exchange_p2': P2_OUT}
     out = {k: (b, run(b)[0]) for k, b in ((k, make()) for k, make in POINTS.items())}
     for k, b in CUT.items():
         known['2_' + k] = (P2_OUT if b.startswith(P2_IN) else b'') + h('81000103')
         out['2_' + k] = b, run(b)[0]
-    more = {'2_empty_input': (b'', b''),
-            '2_length_60000_unknown_tag_is_1': (f(0x7F, bytes(60000)) + P2_IN, h('81000101') + P2_OUT),
-            '2_length_60000_known_tag_is_2': (f(1, bytes(60000)) + P2_IN, h('81000102') + P2_OUT),
-            '2_length_60001_wholly_there_is_3': (P2_IN + f(2, bytes(60001)) + P2_IN, P2_OUT + h('81000103'))}
-    for k, (b, due_out) in more.items():
+    for k, (b, due_out) in MORE.items():
         known[k] = due_out
         out[k] = b, run(b)[0]
     for k, due_out in known.items():

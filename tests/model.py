@@ -1,5 +1,5 @@
 #!/usr/bin/env python3
-"""A second service, by brute force, from the scope document alone; it makes the stored input of `recheck_run`.
+"""A second service, by brute force, made apart from the crates, by docs/SCOPE.md; it makes the stored input of `recheck_run`.
 
 It shares nothing with the crates: it builds each admissible combination, where `recheck` tests every set."""
 import itertools
@@ -9,7 +9,7 @@ import struct
 
 D, F, HP, HV, L, LR, S, R, W, E, FA = range(1, 12)
 
-# The paper's table, column by column as it stands there: D F L roof snow-only W E H. 'f' is the live option's factor.
+# SCOPE 3.2 and 3.3, column by column: D F L roof snow-only W E H. 'f' is the live option's factor.
 PLAIN = {
     1: dict(D=1400, F=1400),
     2: dict(D=1200, F=1200, L=1600, roof=500, H=1600),
@@ -337,7 +337,7 @@ def long_fields():
 
 
 def check_worked(rng):
-    """The frames worked by hand give the numbers of the paper; P2's answer, which is unique, gives its bytes."""
+    """The frames worked by hand give the numbers of SCOPE 11.1; P2's answer, which is unique, gives its bytes."""
     for i, (fields, want, other) in enumerate(worked()):
         s = Sheet()
         for b in fields:
