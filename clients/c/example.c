@@ -1,4 +1,7 @@
-/* The worked frame P2: dead 100, live 50, wind -200 and wind 80 on N at station 0. Prints the maximum, its row, and the minimum. */
+/* A dead load of 10 kN, a live load of 5 kN and winds of -20 kN and 8 kN on N at station 0 (frame P2 of docs/SCOPE.md, 11.1). Prints the
+   extremes of N and shows a refusal. From the root of the repository, after `rt staticlib frames_c`:
+
+       cc -I clients/c clients/c/example.c target/staticlib/libframes_c.a -o target/example_c && target/example_c */
 #include <inttypes.h>
 #include <stdio.h>
 
@@ -10,13 +13,14 @@ static const uint8_t edits[] = {
     0x02, 0, 2, 1, 5,                            /* case 1: live */
     0x02, 0, 2, 2, 9,                            /* case 2: wind */
     0x02, 0, 2, 3, 9,                            /* case 3: wind */
-    0x03, 0, 8, 0, 0, 0x00, 0x64, 0, 0, 0, 0,    /* 100 */
+    0x03, 0, 8, 0, 0, 0x00, 0x64, 0, 0, 0, 0,    /* 100 tenths of a kN */
     0x03, 0, 8, 1, 0, 0x00, 0x32, 0, 0, 0, 0,    /* 50 */
     0x03, 0, 8, 2, 0, 0xFF, 0x38, 0, 0, 0, 0,    /* -200 */
     0x03, 0, 8, 3, 0, 0x00, 0x50, 0, 0, 0, 0,    /* 80 */
 };
 
-static const uint8_t question[] = {0x06, 0, 2, 0, 0};
+static const uint8_t extremes[] = {0x06, 0, 2, 0, 0};    /* of N at station 0 */
+static const uint8_t utilisation[] = {0x07, 0, 1, 0};    /* at station 0, which has no capacities */
 
 /* 8 bytes, the high one first, in two's complement. */
 static int64_t number(const uint8_t *b)
@@ -27,6 +31,12 @@ static int64_t number(const uint8_t *b)
     return bits >> 63 ? -(int64_t)~bits - 1 : (int64_t)bits;
 }
 
+/* A factored effect is in thousandths of a tenth of a kN. */
+static void show(const char *name, const uint8_t *extreme)
+{
+    printf("%s N: %.2f kN, row %d\n", name, (double)number(extreme) / 10000, extreme[8]);
+}
+
 int main(void)
 {
     uint8_t output[FRAMES_ANSWER * 9], saved[FRAMES_SAVED];
@@ -34,16 +44,21 @@ int main(void)
 
     frames_ran made = frames_run(fresh, 0, edits, sizeof edits, output, sizeof output, saved, sizeof saved);
     if (made.refusal != 0) {
-        fprintf(stderr, "refused: %d\n", made.refusal);
+        fprintf(stderr, "refused with %d: %s\n", made.refusal, frames_refusal_text(made.refusal));
         return 1;
     }
-    frames_ran asked = frames_answer(saved, made.saved, question, sizeof question, output, sizeof output);
+    printf("%zu fields answered, %zu bytes saved\n", frames_count(edits, sizeof edits), made.saved);
+
+    frames_ran asked = frames_answer(saved, made.saved, extremes, sizeof extremes, output, sizeof output);
     if (asked.refusal != 0 || output[0] != 0x86) {
-        fprintf(stderr, "no answer\n");
+        fprintf(stderr, "no extremes\n");
         return 1;
     }
-    printf("%zu fields, %zu bytes saved\n", frames_count(edits, sizeof edits), made.saved);
-    printf("maximum %" PRId64 " in row %d\n", number(output + 3), output[11]);
-    printf("minimum %" PRId64 " in row %d\n", number(output + 20), output[28]);
+    show("maximum", output + 3);
+    show("minimum", output + 20);
+
+    asked = frames_answer(saved, made.saved, utilisation, sizeof utilisation, output, sizeof output);
+    if (asked.refusal == 0 && output[0] == 0x81)
+        printf("utilisation: refused with %d: %s\n", output[3], frames_refusal_text(output[3]));
     return 0;
 }

@@ -48,6 +48,28 @@ frames_ran frames_run(const uint8_t *state, size_t state_len,
                       uint8_t *output, size_t output_len,
                       uint8_t *saved, size_t saved_len);
 
+/* The text of a refusal, by its number in `refusal` or in an answer 81. NULL for another number, 0 included. */
+static inline const char *frames_refusal_text(uint8_t refusal)
+{
+    switch (refusal) {
+    case 1: return "unknown tag";
+    case 2: return "the length is not the tag's";
+    case 3: return "the field is cut short or too long";
+    case 4: return "no such method, live option or zone";
+    case 5: return "the case is not 0 to 31";
+    case 6: return "the station is not 0 to 15";
+    case 7: return "the kind is not 1 to 11";
+    case 8: return "the component is not 0 to 2";
+    case 9: return "an effect is not -10,000 to 10,000";
+    case 10: return "a capacity is not 1 to 10,000";
+    case 11: return "the place already holds a load case";
+    case 12: return "the place holds no load case";
+    case 13: return "the station has no capacities";
+    case 14: return "the output is too short";
+    default: return NULL;
+    }
+}
+
 #ifdef __cplusplus
 }
 #endif

@@ -1,6 +1,6 @@
-"""The load combinations of the scope document (01): rows, admissible combinations, factored effects, utilisation.
+"""The load combinations of docs/SCOPE.md, sections 3 and 4: rows, admissible combinations, factored effects, utilisation.
 
-Written from that document alone, in exact integers. Factors are in thousandths.
+Written apart from the crates, in exact integers. Factors are in thousandths.
 """
 
 from dataclasses import dataclass

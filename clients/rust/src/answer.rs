@@ -1,12 +1,13 @@
-use crate::Refusal;
+use crate::wire::{split, take};
+use crate::{Refusal, Row};
 
 /// A governing number of a component and a combination that reaches it.
 #[derive(Clone, Copy, Debug, PartialEq, Eq, Hash)]
 pub struct Extreme {
     /// The factored effect, in thousandths of the effect's unit.
     pub value: i64,
-    /// The row of the standard's lines.
-    pub row: u8,
+    /// The load combination of ASCE 7-10.
+    pub row: Row,
     /// The acting cases: case k is bit k.
     pub acting: u32,
     /// The permanent earth pressures at the low factor: case k is bit k.
@@ -31,8 +32,8 @@ pub struct Utilisation {
     pub denominator: u64,
     /// Whether the numerator is at most the denominator.
     pub pass: bool,
-    /// The row of the standard's lines.
-    pub row: u8,
+    /// The load combination of ASCE 7-10.
+    pub row: Row,
     /// The acting cases: case k is bit k.
     pub acting: u32,
     /// The permanent earth pressures at the low factor: case k is bit k.
@@ -71,9 +72,8 @@ pub enum Answer {
 impl Answer {
     /// The answer at the front of the bytes, and the bytes after it. `None` where the bytes begin with no whole answer.
     pub fn decode(bytes: &[u8]) -> Option<(Answer, &[u8])> {
-        let (&[tag, high, low], rest) = bytes.split_first_chunk()?;
-        let len = usize::from(u16::from_be_bytes([high, low]));
-        let (mut body, rest) = rest.split_at_checked(len)?;
+        let (tag, mut body, rest) = split(bytes)?;
+        let len = body.len();
         let body = &mut body;
         let answer = match (tag, len) {
             (0x80, 0) => Answer::Accepted,
@@ -104,7 +104,7 @@ impl Answer {
 fn extreme(bytes: &mut &[u8]) -> Option<Extreme> {
     Some(Extreme {
         value: i64::from_be_bytes(take(bytes)?),
-        row: u8::from_be_bytes(take(bytes)?),
+        row: Row::from_number(u8::from_be_bytes(take(bytes)?))?,
         acting: u32::from_be_bytes(take(bytes)?),
         low: u32::from_be_bytes(take(bytes)?),
     })
@@ -115,15 +115,8 @@ fn utilisation(bytes: &mut &[u8]) -> Option<Utilisation> {
         numerator: u64::from_be_bytes(take(bytes)?),
         denominator: u64::from_be_bytes(take(bytes)?),
         pass: u8::from_be_bytes(take(bytes)?) == 1,
-        row: u8::from_be_bytes(take(bytes)?),
+        row: Row::from_number(u8::from_be_bytes(take(bytes)?))?,
         acting: u32::from_be_bytes(take(bytes)?),
         low: u32::from_be_bytes(take(bytes)?),
     })
-}
-
-/// The next bytes, which are then taken off the front.
-fn take<const N: usize>(bytes: &mut &[u8]) -> Option<[u8; N]> {
-    let (front, rest) = bytes.split_first_chunk()?;
-    *bytes = rest;
-    Some(*front)
 }

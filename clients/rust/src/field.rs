@@ -1,3 +1,5 @@
+use crate::wire::split;
+
 /// The method of the standard.
 #[derive(Clone, Copy, Debug, Default, PartialEq, Eq, Hash)]
 #[repr(u8)]
@@ -84,6 +86,27 @@ pub enum Component {
     Mz = 2,
 }
 
+/// Gives an enum the list of its values, and the value of a number.
+macro_rules! numbered {
+    ($name:ident: $($value:ident)+) => {
+        impl $name {
+            /// Every value, by rising number.
+            pub const ALL: &'static [$name] = &[$($name::$value),+];
+
+            /// The value of a number, where there is one.
+            pub fn from_number(number: u8) -> Option<$name> {
+                $name::ALL.iter().copied().find(|value| *value as u8 == number)
+            }
+        }
+    };
+}
+
+numbered!(Method: Strength Allowable);
+numbered!(LiveOption: Full Half);
+numbered!(Zone: NoFlood Coastal Noncoastal);
+numbered!(Kind: Dead Fluid EarthPermanent EarthOther Live RoofLive Snow Rain Wind Earthquake Flood);
+numbered!(Component: N My Mz);
+
 /// The effects of a case at a station: N in tenths of a kN, moments in tenths of a kN m.
 #[derive(Clone, Copy, Debug, Default, PartialEq, Eq, Hash)]
 pub struct Effects {
@@ -159,6 +182,46 @@ impl Field {
         out.extend_from_slice(self.encoded().as_bytes());
     }
 
+    /// The field at the front of the bytes, and the bytes after it. `None` where they begin with no whole field, or with one whose
+    /// values these types do not have.
+    pub fn decode(bytes: &[u8]) -> Option<(Field, &[u8])> {
+        let (tag, body, rest) = split(bytes)?;
+        let field = match (tag, body) {
+            (1, &[method, live, zone]) => Field::Start(Settings {
+                method: Method::from_number(method)?,
+                live: LiveOption::from_number(live)?,
+                zone: Zone::from_number(zone)?,
+            }),
+            (2, &[case, kind]) => Field::AddCase {
+                case,
+                kind: Kind::from_number(kind)?,
+            },
+            (3, &[case, station, ref words @ ..]) => {
+                let [n, my, mz] = three(words)?.map(i16::from_be_bytes);
+                Field::SetEffects {
+                    case,
+                    station,
+                    effects: Effects { n, my, mz },
+                }
+            }
+            (4, &[case]) => Field::DropCase { case },
+            (5, &[station, ref words @ ..]) => {
+                let [n, my, mz] = three(words)?.map(u16::from_be_bytes);
+                Field::SetCapacities {
+                    station,
+                    capacities: Capacities { n, my, mz },
+                }
+            }
+            (6, &[station, component]) => Field::Extremes {
+                station,
+                component: Component::from_number(component)?,
+            },
+            (7, &[station]) => Field::Utilisation { station },
+            _ => return None,
+        };
+        Some((field, rest))
+    }
+
     pub(crate) fn encoded(&self) -> Encoded {
         match *self {
             Field::Start(s) => Encoded::new(1, &[s.method as u8, s.live as u8, s.zone as u8]),
@@ -184,6 +247,14 @@ impl Field {
             Field::Utilisation { station } => Encoded::new(7, &[station]),
         }
     }
+}
+
+/// Three numbers of two bytes and no more.
+fn three(words: &[u8]) -> Option<[[u8; 2]; 3]> {
+    let &[n0, n1, y0, y1, z0, z1] = words else {
+        return None;
+    };
+    Some([[n0, n1], [y0, y1], [z0, z1]])
 }
 
 /// A field as bytes, without an allocation.

@@ -16,6 +16,7 @@
 //! let extremes = sheet.extremes(0, Component::N)?;
 //! assert_eq!(extremes.maximum.value, 200_000); // 1.2 D + 1.6 L
 //! assert_eq!(extremes.minimum.value, -110_000); // 0.9 D + 1.0 W
+//! assert_eq!(extremes.minimum.row.name(), "2.3.2-6");
 //! assert_eq!(frames::cases(extremes.minimum.acting).collect::<Vec<_>>(), [0, 2]);
 //!
 //! sheet.set_capacities(0, Capacities { n: 250, my: 10, mz: 10 })?;
@@ -33,9 +34,12 @@ pub mod bytes;
 mod field;
 pub mod raw;
 mod refusal;
+mod row;
 mod sheet;
+mod wire;
 
 pub use answer::{cases, Answer, Extreme, Extremes, Utilisation};
 pub use field::{Capacities, Component, Effects, Field, Kind, LiveOption, Method, Settings, Zone};
 pub use refusal::Refusal;
+pub use row::Row;
 pub use sheet::Sheet;

@@ -64,26 +64,31 @@ impl Refusal {
         let at = usize::from(number).checked_sub(1)?;
         Refusal::ALL.get(at).copied()
     }
+
+    /// What is refused, in words.
+    pub fn text(self) -> &'static str {
+        match self {
+            Refusal::UnknownTag => "unknown tag",
+            Refusal::WrongLength => "the length is not the tag's",
+            Refusal::Cut => "the field is cut short or too long",
+            Refusal::SettingsOutside => "no such method, live option or zone",
+            Refusal::CaseOutside => "the case is not 0 to 31",
+            Refusal::StationOutside => "the station is not 0 to 15",
+            Refusal::KindOutside => "the kind is not 1 to 11",
+            Refusal::ComponentOutside => "the component is not 0 to 2",
+            Refusal::EffectOutside => "an effect is not -10,000 to 10,000",
+            Refusal::CapacityOutside => "a capacity is not 1 to 10,000",
+            Refusal::PlaceTaken => "the place already holds a load case",
+            Refusal::PlaceEmpty => "the place holds no load case",
+            Refusal::NoCapacity => "the station has no capacities",
+            Refusal::OutputTooShort => "the output is too short",
+        }
+    }
 }
 
 impl fmt::Display for Refusal {
     fn fmt(&self, f: &mut fmt::Formatter<'_>) -> fmt::Result {
-        f.write_str(match self {
-            Refusal::UnknownTag => "unknown tag",
-            Refusal::WrongLength => "length not the tag's",
-            Refusal::Cut => "field cut or too long",
-            Refusal::SettingsOutside => "method, live option or zone outside",
-            Refusal::CaseOutside => "case above 31",
-            Refusal::StationOutside => "station above 15",
-            Refusal::KindOutside => "kind not 1 to 11",
-            Refusal::ComponentOutside => "component above 2",
-            Refusal::EffectOutside => "effect outside -10,000 to 10,000",
-            Refusal::CapacityOutside => "capacity outside 1 to 10,000",
-            Refusal::PlaceTaken => "place taken",
-            Refusal::PlaceEmpty => "place empty",
-            Refusal::NoCapacity => "station without capacities",
-            Refusal::OutputTooShort => "output too short",
-        })
+        f.write_str(self.text())
     }
 }
 

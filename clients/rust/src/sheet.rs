@@ -1,3 +1,4 @@
+use std::collections::BTreeMap;
 use std::fmt;
 
 use crate::bytes::{self, ANSWER, SAVED};
@@ -43,6 +44,62 @@ impl Sheet {
     /// The sheet as bytes, at most 5,958. Equal sheets have equal bytes.
     pub fn save(&self) -> &[u8] {
         &self.saved[..self.len]
+    }
+
+    /// The fields that make the sheet: its settings, each case with its effects other than 0, and the capacities.
+    pub fn fields(&self) -> impl Iterator<Item = Field> + '_ {
+        let mut rest = self.save();
+        std::iter::from_fn(move || {
+            if rest.is_empty() {
+                return None;
+            }
+            let (field, after) = Field::decode(rest).expect("the library saves whole fields");
+            rest = after;
+            Some(field)
+        })
+    }
+
+    /// The settings.
+    pub fn settings(&self) -> Settings {
+        match self.fields().next() {
+            Some(Field::Start(settings)) => settings,
+            field => panic!("the library saves the settings first, not {field:?}"),
+        }
+    }
+
+    /// The kind of the case in a place. `None` where the place is empty or there is no such place.
+    pub fn kind(&self, case: u8) -> Option<Kind> {
+        self.fields().find_map(|field| match field {
+            Field::AddCase { case: k, kind } if k == case => Some(kind),
+            _ => None,
+        })
+    }
+
+    /// The effects of a case at a station. `None` where the place is empty, or there is no such place or station.
+    pub fn effects(&self, case: u8, station: u8) -> Option<Effects> {
+        if self.kind(case).is_none() || station >= STATIONS {
+            return None;
+        }
+        let saved = self.fields().find_map(|field| match field {
+            Field::SetEffects {
+                case: k,
+                station: t,
+                effects,
+            } if (k, t) == (case, station) => Some(effects),
+            _ => None,
+        });
+        Some(saved.unwrap_or_default())
+    }
+
+    /// The capacities of a station. `None` where it has none or there is no such station.
+    pub fn capacities(&self, station: u8) -> Option<Capacities> {
+        self.fields().find_map(|field| match field {
+            Field::SetCapacities {
+                station: t,
+                capacities,
+            } if t == station => Some(capacities),
+            _ => None,
+        })
     }
 
     /// Puts a case in an empty place; its effects are 0.
@@ -153,6 +210,9 @@ impl Sheet {
     }
 }
 
+/// The stations are numbered from 0.
+const STATIONS: u8 = 16;
+
 /// Why a call on a sheet's own bytes is not refused as a whole.
 const KEPT: &str = "the library accepts what it saved, and the output has room";
 
@@ -180,7 +240,36 @@ impl PartialEq for Sheet {
 impl Eq for Sheet {}
 
 impl fmt::Debug for Sheet {
+    /// The settings; by place, the kind of the case and by station its effects other than 0; by station, the capacities.
     fn fmt(&self, f: &mut fmt::Formatter<'_>) -> fmt::Result {
-        f.debug_tuple("Sheet").field(&self.save()).finish()
+        let mut cases = BTreeMap::new();
+        let mut stations = BTreeMap::new();
+        for field in self.fields() {
+            match field {
+                Field::AddCase { case, kind } => {
+                    cases.insert(case, (kind, BTreeMap::new()));
+                }
+                Field::SetEffects {
+                    case,
+                    station,
+                    effects,
+                } => {
+                    let held = cases.get_mut(&case);
+                    held.map(|(_, at)| at.insert(station, effects));
+                }
+                Field::SetCapacities {
+                    station,
+                    capacities,
+                } => {
+                    stations.insert(station, capacities);
+                }
+                _ => {}
+            }
+        }
+        f.debug_struct("Sheet")
+            .field("settings", &self.settings())
+            .field("cases", &cases)
+            .field("capacities", &stations)
+            .finish()
     }
 }

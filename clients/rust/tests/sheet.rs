@@ -1,4 +1,4 @@
-//! The worked frames P1 to P10 of document 01, every refusal, and saving.
+//! The frames worked by hand (SCOPE 11.1), every refusal, what a sheet holds, and saving.
 
 use frames::bytes::{answer, run, ANSWER, SAVED};
 use frames::{
@@ -52,9 +52,9 @@ fn p1_an_empty_sheet() {
 #[test]
 fn p2_dead_live_and_two_winds() {
     let x = extremes(Settings::default(), &P2);
-    assert_eq!((x.maximum.value, x.maximum.row), (250_000, 5));
+    assert_eq!((x.maximum.value, x.maximum.row.number()), (250_000, 5));
     assert_eq!((x.maximum.acting, x.maximum.low), (0b1011, 0));
-    assert_eq!((x.minimum.value, x.minimum.row), (-110_000, 7));
+    assert_eq!((x.minimum.value, x.minimum.row.number()), (-110_000, 7));
     assert_eq!((x.minimum.acting, x.minimum.low), (0b0101, 0));
 }
 
@@ -76,7 +76,7 @@ fn p4_utilisation() {
     assert_eq!((u.numerator, u.denominator), (25_000_000, 25_000_000));
     assert!(u.pass);
     assert_eq!(u.ratio(), 1.0);
-    assert_eq!((u.row, u.acting, u.low), (5, 0b1011, 0));
+    assert_eq!((u.row.number(), u.acting, u.low), (5, 0b1011, 0));
     sheet.set_capacities(0, capacities(249)).unwrap();
     assert!(!sheet.utilisation(0).unwrap().pass);
 }
@@ -108,7 +108,7 @@ fn p8_allowable_stress() {
     };
     let cases = [(Kind::Live, 40), (Kind::Earthquake, 20), (Kind::Snow, 8)];
     let x = extremes(settings, &cases);
-    assert_eq!((x.maximum.value, x.maximum.row), (46_500, 28));
+    assert_eq!((x.maximum.value, x.maximum.row.number()), (46_500, 28));
 }
 
 #[test]
@@ -117,7 +117,7 @@ fn p9_fluid_left_out() {
         Settings::default(),
         &[(Kind::Fluid, -30), (Kind::Wind, 100)],
     );
-    assert_eq!((x.maximum.value, x.maximum.row), (100_000, 7));
+    assert_eq!((x.maximum.value, x.maximum.row.number()), (100_000, 7));
 }
 
 #[test]
@@ -257,6 +257,115 @@ fn a_list_of_fields() {
 }
 
 #[test]
+fn what_a_sheet_holds() {
+    let settings = Settings {
+        method: Method::Allowable,
+        live: LiveOption::Half,
+        zone: Zone::Noncoastal,
+    };
+    let mut s = sheet(settings, &[(Kind::Dead, 7), (Kind::Flood, -10_000)]);
+    let effects = Effects {
+        n: 0,
+        my: -1,
+        mz: 10_000,
+    };
+    s.set_effects(1, 15, effects).unwrap();
+    let capacities = Capacities {
+        n: 1,
+        my: 256,
+        mz: 10_000,
+    };
+    s.set_capacities(15, capacities).unwrap();
+    assert_eq!(s.settings(), settings);
+    assert_eq!(s.kind(0), Some(Kind::Dead));
+    assert_eq!(s.kind(1), Some(Kind::Flood));
+    assert_eq!((s.kind(2), s.kind(32)), (None, None));
+    assert_eq!(s.effects(1, 0), Some(axial(-10_000)));
+    assert_eq!(s.effects(1, 15), Some(effects));
+    assert_eq!(s.effects(0, 15), Some(Effects::default()));
+    assert_eq!((s.effects(2, 0), s.effects(0, 16)), (None, None));
+    assert_eq!(s.capacities(15), Some(capacities));
+    assert_eq!((s.capacities(0), s.capacities(16)), (None, None));
+    let mut again = Sheet::default();
+    again.run(&s.fields().collect::<Vec<_>>());
+    assert_eq!(again, s);
+    s.drop_case(1).unwrap();
+    assert_eq!((s.kind(1), s.effects(1, 15)), (None, None));
+}
+
+#[test]
+fn shown_for_debugging() {
+    let mut s = sheet(Settings::default(), &[(Kind::Dead, 7)]);
+    let capacities = Capacities { n: 3, my: 2, mz: 1 };
+    s.set_capacities(4, capacities).unwrap();
+    assert_eq!(
+        format!("{s:?}"),
+        "Sheet { settings: Settings { method: Strength, live: Full, zone: NoFlood }, \
+         cases: {0: (Dead, {0: Effects { n: 7, my: 0, mz: 0 }})}, \
+         capacities: {4: Capacities { n: 3, my: 2, mz: 1 }} }"
+    );
+}
+
+#[test]
+fn fields_decoded() {
+    for field in every_field() {
+        let mut bytes = Vec::new();
+        field.encode(&mut bytes);
+        for cut in 0..bytes.len() {
+            assert_eq!(Field::decode(&bytes[..cut]), None);
+        }
+        bytes.push(9);
+        assert_eq!(Field::decode(&bytes), Some((field, &[9][..])));
+    }
+    assert_eq!(Field::decode(&[2, 0, 2, 0, 12]), None);
+    assert_eq!(Field::decode(&[4, 0, 2, 0, 0]), None);
+    assert_eq!(Field::decode(&[8, 0, 0]), None);
+}
+
+/// A field of each tag, with every setting, kind and component.
+fn every_field() -> Vec<Field> {
+    let [case, station] = [31, 15];
+    let effects = Effects {
+        n: -1,
+        my: 258,
+        mz: i16::MIN,
+    };
+    let capacities = Capacities {
+        n: 1,
+        my: 258,
+        mz: u16::MAX,
+    };
+    let mut fields = vec![
+        Field::SetEffects {
+            case,
+            station,
+            effects,
+        },
+        Field::DropCase { case },
+        Field::SetCapacities {
+            station,
+            capacities,
+        },
+        Field::Utilisation { station },
+    ];
+    fields.extend(Kind::ALL.iter().map(|&kind| Field::AddCase { case, kind }));
+    fields.extend((Component::ALL.iter()).map(|&component| Field::Extremes { station, component }));
+    fields.extend(every_start());
+    fields
+}
+
+fn every_start() -> impl Iterator<Item = Field> {
+    let numbers = (0..12).map(|n| (n % 2, n / 2 % 2, n / 4));
+    numbers.map(|(method, live, zone)| {
+        Field::Start(Settings {
+            method: Method::ALL[method],
+            live: LiveOption::ALL[live],
+            zone: Zone::ALL[zone],
+        })
+    })
+}
+
+#[test]
 fn saved_and_loaded() {
     assert_eq!(Sheet::default().save(), [1, 0, 3, 1, 0, 0]);
     assert_eq!(Sheet::load(&[]).unwrap(), Sheet::default());
@@ -310,6 +419,17 @@ fn answers_that_are_not_whole() {
     assert_eq!(Answer::decode(&[0x81, 0, 1]), None);
     assert_eq!(Answer::decode(&[0x81, 0, 1, 15]), None);
     assert_eq!(Answer::decode(&[0x82, 0, 0]), None);
+    assert_eq!(Answer::decode(&answer_in_row(13)), None);
+    assert!(Answer::decode(&answer_in_row(12)).is_some());
     let (answer, rest) = Answer::decode(&[0x80, 0, 0, 7]).unwrap();
     assert_eq!((answer, rest), (Answer::Accepted, &[7][..]));
+}
+
+/// A utilisation of 0 over 0 that names a row and no cases.
+fn answer_in_row(row: u8) -> [u8; 29] {
+    let mut bytes = [0; 29];
+    bytes[0] = 0x87;
+    bytes[2] = 26;
+    bytes[20] = row;
+    bytes
 }

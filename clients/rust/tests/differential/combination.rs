@@ -1,4 +1,4 @@
-//! Rows, load factors and admissible combinations, written down as 01 states them.
+//! Rows, load factors and admissible combinations, written down as docs/SCOPE.md states them.
 //!
 //! Both the reference and the brute-force enumeration rest on these definitions, and a combination
 //! that the library names is checked by them.
@@ -59,7 +59,7 @@ const fn row(number: u8, roof_takes: Roof, columns: [i64; 7]) -> Row {
     }
 }
 
-// 01, 'Lines of the standard'
+// SCOPE 3.2 to 3.4
 #[rustfmt::skip]
 const STRENGTH: [Row; 8] = [
     //                       D     F     L  roof     W     E     H
@@ -172,7 +172,7 @@ pub fn contains(set: u32, place: usize) -> bool {
     set >> place & 1 == 1
 }
 
-// 01, 'Admissible combinations'
+// SCOPE 4.1 to 4.3
 /// Whether the acting cases and the low set are admissible in an open row.
 pub fn admissible(sheet: &Sheet, row: &Row, acting: u32, low: u32) -> Result<(), &'static str> {
     let mut acting_of_group = [0; ONE_OF.len()];

@@ -1,5 +1,5 @@
 //! Compares answers with the reference's. Which combination an answer names is free, so that part
-//! is checked by 01's definition; everything else is compared byte for byte.
+//! is checked by the definition (SCOPE 4); everything else is compared byte for byte.
 
 use crate::combination::{admissible, factored_effects, numerator, open_rows, Combination};
 use crate::reference::{read_list, Answer, Extreme, Sheet};

@@ -1,4 +1,4 @@
-//! Differential tests: the library and the `frames` program against a reference made from 01.
+//! Differential tests: the library and the `frames` program against a reference made apart, by docs/SCOPE.md.
 //!
 //! `cargo test --release --test differential -- [FIELDS] [SEED]`
 
@@ -124,7 +124,7 @@ impl Run {
         }
     }
 
-    /// Counts what the list holds, and compares the reference with 01's definitions.
+    /// Counts what the list holds, and compares the reference with the definition of a combination (SCOPE 4).
     fn check_reference(&mut self, list: &[u8]) {
         let mut result = Ok(());
         let summary = &mut self.summary;
@@ -228,7 +228,7 @@ fn is_enumerated(filled: usize, answered: u64) -> bool {
     filled <= 6 || filled <= enumerate::MOST_PLACES && answered % 8 == 0
 }
 
-/// Compares the reference with 01's definitions at every tag 06 and 07 of a list.
+/// Compares the reference with the definition of a combination at every tag 06 and 07 of a list.
 fn check_definitions(list: &[u8]) -> Result<(), String> {
     let mut result = Ok(());
     reference::read_list(&mut Sheet::fresh(), list, |sheet, field, answer| {

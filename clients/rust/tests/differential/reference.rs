@@ -1,4 +1,4 @@
-//! A plain implementation of 01, by the direct method: what every answer must be.
+//! A plain implementation of docs/SCOPE.md, by the direct method: what every answer must be.
 
 use crate::combination::{self, low_factor, open_rows, Combination, Row, D, F, HP, HV, L, ONE_OF};
 
@@ -15,7 +15,7 @@ pub struct Case {
     pub effects: [[i16; 3]; STATIONS],
 }
 
-// 01, 'A sheet and its seven fields'
+// SCOPE 2.1
 #[derive(Clone)]
 pub struct Sheet {
     pub method: u8,
@@ -64,7 +64,7 @@ pub enum Answer {
     },
 }
 
-// 01, 'Answer fields'
+// SCOPE 6.1
 impl Answer {
     pub fn bytes(&self) -> Vec<u8> {
         match self {
@@ -136,7 +136,7 @@ pub fn read(sheet: &mut Sheet, input: &[u8]) -> (Answer, usize) {
     (answer, field.len())
 }
 
-/// The first refusal due on a field that is whole, in 01's order.
+/// The first refusal due on a field that is whole, in the order of SCOPE 7.2.
 fn refusal(sheet: &Sheet, tag: u8, body: &[u8]) -> Option<u8> {
     let length = match tag {
         0x01 => 3,
@@ -316,7 +316,7 @@ fn consider(best: &mut [Option<(usize, i128)>], kind: u8, place: usize, value: i
     }
 }
 
-// 01, 'Saving'
+// SCOPE 8.1
 pub fn save(sheet: &Sheet) -> Vec<u8> {
     let mut saved = vec![1, 0, 3, sheet.method, sheet.live_option, sheet.zone];
     for (place, case) in filled(&sheet.places) {

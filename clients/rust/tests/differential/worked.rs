@@ -1,5 +1,5 @@
-//! Fixed lists: the frames that 01 works by hand, the small inputs of its table of refusals, and
-//! fields at the limits of a length.
+//! Fixed lists: the frames worked by hand, the small inputs of the table of refusals, and fields at
+//! the limits of a length.
 
 use crate::combination::{D, E, F, FA, HP, HV, L, R, S, W};
 use crate::lists::field;
@@ -23,7 +23,7 @@ enum Expected {
 use Expected::{Bytes, Extremes, Maximum, MaximumInRow, Utilisation};
 
 impl Example {
-    /// Compares the reference with the number or the bytes that 01 prints.
+    /// Compares the reference with the number or the bytes of the document.
     pub fn check(&self) -> Result<(), String> {
         let mut last = Answer::Accepted;
         read_list(&mut Sheet::fresh(), &self.list, |_, _, answer| {
@@ -52,7 +52,10 @@ impl Example {
         if holds {
             return Ok(());
         }
-        Err(format!("{}: the reference differs from 01", self.name))
+        Err(format!(
+            "{}: the reference differs from the document",
+            self.name
+        ))
     }
 }
 
@@ -96,7 +99,7 @@ const PLAIN: [u8; 3] = [1, 0, 0];
 const P2: [(u8, i16); 4] = [(D, 100), (L, 50), (W, -200), (W, 80)];
 const P7: [(u8, i16); 2] = [(FA, 10), (W, 100)];
 
-// 01, 'Frames worked by hand'
+// SCOPE 11.1
 #[rustfmt::skip]
 pub fn frames() -> Vec<Example> {
     let p4 = |name, capacity, expected| {
@@ -120,7 +123,7 @@ pub fn frames() -> Vec<Example> {
     ]
 }
 
-// 01, 'Errors engineers make here'
+// SCOPE 11.2
 /// Two wind cases with effects in different components: the separate extremes do not add.
 fn two_winds() -> Example {
     let mut list = cases(PLAIN, &[(W, 100), (W, 0)]);
@@ -129,7 +132,7 @@ fn two_winds() -> Example {
     utilisation("two winds", list, [100, 100, 100], expected)
 }
 
-/// P2 in the order of fields that 01 prints, without the last field.
+/// P2 in the order of fields of docs/FIELDS.md, without the questions.
 fn p2_as_printed() -> Vec<u8> {
     let mut list = field(1, &[1, 0, 0]);
     for (place, kind) in [(0, 1), (1, 5), (2, 9), (3, 9)] {
@@ -157,7 +160,7 @@ fn p2_answer() -> Vec<u8> {
     ]
 }
 
-// 01, 'Answer fields'
+// SCOPE 7.1
 pub fn refusals() -> Vec<Example> {
     let examples: [(u8, &[u8]); 13] = [
         (3, &[1, 0, 3, 1]),

@@ -1,0 +1,288 @@
+//! Rows and refusals read the same in this crate, in docs/FIELDS.md, in docs/SCOPE.md and in the C header, and the formulas have the
+//! factors of the table that the differential tests use.
+
+#[allow(dead_code)]
+#[path = "differential/combination.rs"]
+mod combination;
+#[allow(dead_code)]
+#[path = "differential/reference.rs"]
+mod reference;
+
+use std::collections::BTreeMap;
+
+use combination::{low_factor, open_rows};
+use frames::bytes::{answer, ANSWER};
+use frames::{Kind, LiveOption, Method, Refusal, Row, Zone};
+
+const FIELDS: &str = include_str!("../../../docs/FIELDS.md");
+const SCOPE: &str = include_str!("../../../docs/SCOPE.md");
+const HEADER: &str = include_str!("../../c/frames.h");
+
+/// The symbols that a formula has for the kinds, from kind 1 on.
+const SYMBOLS: [&str; 11] = ["D", "F", "H", "H", "L", "Lr", "S", "R", "W", "E", "Fa"];
+
+/// The lines of the first table under a heading that start with a number, as their cells.
+fn table<'a>(document: &'a str, heading: &str) -> Vec<Vec<&'a str>> {
+    let (_, section) = document.split_once(heading).expect("the heading is there");
+    let lines = section.lines().skip_while(|line| !line.starts_with('|'));
+    lines
+        .take_while(|line| line.starts_with('|'))
+        .map(|line| line.trim_matches('|').split('|').map(cell).collect())
+        .filter(|cells: &Vec<&str>| cells[0].starts_with(|c: char| c.is_ascii_digit()))
+        .collect()
+}
+
+fn cell(text: &str) -> &str {
+    text.trim().trim_matches('`')
+}
+
+fn row_of(number: &str) -> Row {
+    Row::from_number(number.parse().unwrap()).unwrap()
+}
+
+/// The rows of a cell such as `1 to 8, 9, 10`.
+fn rows_of(cell: &str) -> Vec<Row> {
+    let mut rows = Vec::new();
+    for span in cell.split(", ") {
+        let (first, last) = span.split_once(" to ").unwrap_or((span, span));
+        let span = row_of(first)..=row_of(last);
+        rows.extend(Row::ALL.iter().filter(|row| span.contains(row)));
+    }
+    rows
+}
+
+fn thousandths(number: &str) -> i64 {
+    (number.parse::<f64>().unwrap() * 1000.0).round() as i64
+}
+
+/// The factors of a formula in thousandths, by symbol. `0.75(0.6W)` is a product, `0.5(Lr or S or R)` gives each its factor.
+fn factors(formula: &str) -> BTreeMap<&str, i64> {
+    let mut found = BTreeMap::new();
+    for term in formula.split(" + ") {
+        let mut factor = 1000;
+        let words = term.split(['(', ')', ' ']).filter(|word| *word != "or");
+        for word in words {
+            let letters = word.find(char::is_alphabetic).unwrap_or(word.len());
+            let (number, symbol) = word.split_at(letters);
+            if !number.is_empty() {
+                factor = factor * thousandths(number) / 1000;
+            }
+            if !symbol.is_empty() {
+                assert_eq!(found.insert(symbol, factor), None, "{formula}");
+            }
+        }
+    }
+    found
+}
+
+/// Every choice of the settings, as the sheet of the reference.
+fn settings() -> impl Iterator<Item = (LiveOption, reference::Sheet)> {
+    let mut all = Vec::new();
+    for method in Method::ALL {
+        for live in LiveOption::ALL {
+            for zone in Zone::ALL {
+                let mut sheet = reference::Sheet::fresh();
+                sheet.method = *method as u8;
+                sheet.live_option = *live as u8;
+                sheet.zone = *zone as u8;
+                all.push((*live, sheet));
+            }
+        }
+    }
+    all.into_iter()
+}
+
+#[test]
+fn formulas_have_the_factors_of_the_rows() {
+    let mut seen = Vec::new();
+    for (live, sheet) in settings() {
+        for expected in open_rows(&sheet) {
+            let row = Row::from_number(expected.number).unwrap();
+            seen.push(row);
+            let formula = row.formula(live);
+            let found = factors(&formula);
+            for (kind, symbol) in Kind::ALL.iter().zip(SYMBOLS) {
+                let factor = found.get(symbol).copied().unwrap_or(0);
+                assert_eq!(
+                    factor,
+                    expected.factor(*kind as u8),
+                    "{symbol} in {formula}"
+                );
+            }
+            let low = row.low_term().map(|term| factors(term)["Hp"]);
+            let has_low = found.contains_key("H");
+            assert_eq!(low, has_low.then(|| low_factor(&sheet)), "{formula}");
+        }
+    }
+    seen.sort();
+    seen.dedup();
+    assert_eq!(seen, Row::ALL);
+}
+
+#[test]
+fn rows_of_the_fields_document() {
+    let rows = table(FIELDS, "\n## Rows\n");
+    assert_eq!(rows.len(), Row::ALL.len());
+    for (row, cells) in Row::ALL.into_iter().zip(rows) {
+        let [number, name, formula, half, low, open_in] = cells[..] else {
+            panic!("six cells: {cells:?}");
+        };
+        assert_eq!(row_of(number), row);
+        assert_eq!(name, row.name());
+        assert_eq!(formula, row.formula(LiveOption::Full));
+        let halved = match half {
+            "" => formula.to_string(),
+            half => formula.replacen(" L ", &format!(" {half} "), 1),
+        };
+        assert_eq!(halved, row.formula(LiveOption::Half));
+        assert_eq!(half == "0.5L", row.formula(LiveOption::Half) != formula);
+        assert_eq!(low, row.low_term().unwrap_or(""));
+        assert_eq!(open_in, opened_by(row));
+    }
+}
+
+/// The settings with which a row is open: a method alone where no flood zone is needed.
+fn opened_by(row: Row) -> String {
+    let opens = |sheet: &reference::Sheet| {
+        let rows = open_rows(sheet);
+        rows.iter().any(|open| open.number == row.number())
+    };
+    let opening: Vec<_> = settings().filter(|(_, sheet)| opens(sheet)).collect();
+    let (_, first) = &opening[0];
+    assert!(opening
+        .iter()
+        .all(|(_, sheet)| sheet.method == first.method));
+    match first.zone {
+        0 => {
+            assert_eq!(opening.len(), LiveOption::ALL.len() * Zone::ALL.len());
+            format!("method {}", first.method)
+        }
+        zone => {
+            assert!(opening.iter().all(|(_, sheet)| sheet.zone == zone));
+            format!("method {}, zone {zone}", first.method)
+        }
+    }
+}
+
+#[test]
+fn rows_of_the_scope_document() {
+    let strength = table(SCOPE, "\n### 3.2 ");
+    let allowable = table(SCOPE, "\n### 3.3 ");
+    assert_eq!((strength.len(), allowable.len()), (8, 10));
+    for cells in strength.iter().chain(&allowable) {
+        let row = row_of(cells[0]);
+        assert_eq!(cells[1], row.name());
+        for live in LiveOption::ALL {
+            let formula = row.formula(*live);
+            let expected = scope_factors(&cells[2..], *live);
+            assert_eq!(factors(&formula), expected, "{formula}");
+        }
+    }
+}
+
+/// The factors of a row of the scope's tables, by symbol.
+fn scope_factors(cells: &[&str], live: LiveOption) -> BTreeMap<&'static str, i64> {
+    let columns: [&[&str]; 7] = [
+        &["D"],
+        &["F"],
+        &["L"],
+        &["Lr", "S", "R"],
+        &["W"],
+        &["E"],
+        &["H"],
+    ];
+    let mut found = BTreeMap::new();
+    for (cell, symbols) in cells.iter().zip(columns) {
+        let (symbols, number) = match cell.strip_prefix("S ") {
+            Some(number) => (&["S"][..], number),
+            None => (symbols, *cell),
+        };
+        let factor = match (number, live) {
+            ("", _) => continue,
+            ("f", LiveOption::Full) => 1000,
+            ("f", LiveOption::Half) => 500,
+            (number, _) => number.parse().unwrap(),
+        };
+        found.extend(symbols.iter().map(|symbol| (*symbol, factor)));
+    }
+    found
+}
+
+#[test]
+fn flood_rows_of_the_scope_document() {
+    let mut seen = Vec::new();
+    for cells in table(SCOPE, "\n### 3.4 ") {
+        let [rows, item, plain_rows, changes] = cells[..] else {
+            panic!("four cells: {cells:?}");
+        };
+        for (row, plain) in rows_of(rows).into_iter().zip(rows_of(plain_rows)) {
+            assert_eq!(row.name(), format!("{item} on {}", plain.name()));
+            for live in LiveOption::ALL {
+                let formula = plain.formula(*live);
+                let mut expected = factors(&formula);
+                for change in changes.split(", ") {
+                    match change.split_once(' ').unwrap() {
+                        ("no", symbol) => expected.remove(symbol),
+                        (symbol, factor) => expected.insert(symbol, factor.parse().unwrap()),
+                    };
+                }
+                assert_eq!(factors(&row.formula(*live)), expected);
+            }
+            seen.push(row);
+        }
+    }
+    assert_eq!(seen, rows_of("9 to 12, 31 to 40"));
+}
+
+#[test]
+fn open_rows_of_the_scope_document() {
+    let lines = table(SCOPE, "\n### 3.7 ");
+    assert_eq!(lines.len(), Method::ALL.len() * Zone::ALL.len());
+    for cells in lines {
+        let mut sheet = reference::Sheet::fresh();
+        sheet.method = cells[0].parse().unwrap();
+        sheet.zone = cells[1].parse().unwrap();
+        let open: Vec<_> = open_rows(&sheet).iter().map(|row| row.number).collect();
+        let documented: Vec<_> = rows_of(cells[2]).iter().map(|row| row.number()).collect();
+        assert_eq!(documented, open);
+    }
+}
+
+/// Fields stand from column 4 on and answers from column 42 on.
+#[test]
+fn worked_exchange_of_the_fields_document() {
+    let (_, section) = FIELDS.split_once("\n## A worked exchange\n").unwrap();
+    let (section, _) = section.split_once("\n## ").unwrap();
+    let (mut input, mut expected) = (Vec::new(), Vec::new());
+    for line in section.lines().filter(|line| line.starts_with("    ")) {
+        input.extend(hexadecimal(&line[4..42]));
+        expected.extend(hexadecimal(&line[42..]));
+    }
+    let mut output = [0; 20 * ANSWER];
+    let written = answer(&[], &input, &mut output).unwrap();
+    assert_eq!(output[..written], expected);
+}
+
+fn hexadecimal(bytes: &str) -> impl Iterator<Item = u8> + '_ {
+    let byte = |digits| u8::from_str_radix(digits, 16).unwrap();
+    bytes.split_whitespace().map(byte)
+}
+
+#[test]
+fn texts_of_refusals() {
+    let own: BTreeMap<u8, &str> = Refusal::ALL
+        .iter()
+        .map(|refusal| (refusal.number(), refusal.text()))
+        .collect();
+    let documented: BTreeMap<u8, &str> = table(FIELDS, "\n## Refusals\n")
+        .iter()
+        .map(|cells| (cells[0].parse().unwrap(), cells[1]))
+        .collect();
+    assert_eq!(documented, own);
+    let in_header: BTreeMap<u8, &str> = HEADER
+        .lines()
+        .filter_map(|line| line.trim().strip_prefix("case ")?.split_once(": return \""))
+        .map(|(number, text)| (number.parse().unwrap(), text.trim_end_matches("\";")))
+        .collect();
+    assert_eq!(in_header, own);
+}
