@@ -8,7 +8,7 @@ import threading
 import time
 import checks
 from checks import CUT, LONG, P2, TESTS, Outcome, agrees, due, ended, expect, holds, repeated, same, started
-from model import f
+from model import LENGTHS, f
 
 
 def pieces_random(b, seed):
@@ -51,10 +51,10 @@ def feed(binary, pieces, pause):
 
 
 def random_fields(seed):
-    r, lengths, b = random.Random(seed), {1: 3, 2: 2, 3: 8, 4: 1, 5: 7, 6: 2, 7: 1}, b''
+    r, b = random.Random(seed), b''
     for _ in range(2000):
-        tag = r.randrange(0, 9)
-        n = lengths.get(tag, 0) if r.random() < 0.9 else r.randrange(0, 300)
+        tag = r.randrange(0, 10)
+        n = LENGTHS.get(tag, 0) if r.random() < 0.9 else r.randrange(0, 300)
         b += f(tag, bytes(r.choice([0, 1, 2, 3, 9, 16, 40, 255]) for _ in range(n)))
     return b
 

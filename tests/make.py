@@ -7,7 +7,7 @@ import random
 import struct
 import model as m
 from stations import STATIONS
-from model import D, F, HP, HV, L, LR, S, R, W, E, FA, f, effects, caps
+from model import D, F, HP, HV, L, LR, S, R, W, E, FA, DI, WI, f, effects, caps
 
 h = bytes.fromhex
 HERE = os.path.dirname(os.path.abspath(__file__))
@@ -126,15 +126,15 @@ def refusals():
     small input."""
     b = f(4, 0) + f(7, 0) + f(6, 0, 0) + f(3, 0, 0, effects(1, 1, 1)) + b''.join(m.before_any_settings())
     no = [12, 13, 12, 13]
-    small = [('7F0000', 1), ('0400020000', 2), ('010003030000', 4), ('04000120', 5), ('07000110', 6), ('020002000C', 7), ('0600020003', 8),
-             ('0300080000271100000000', 9), ('05000700000000010001', 10), ('04000100', 12), ('07000100', 13)]
+    small = [('7F0000', 1), ('0400020000', 2), ('010003030000', 4), ('04000120', 5), ('07000110', 6), ('020002000E', 7), ('08000102', 4),
+             ('0600020003', 8), ('0300080000271100000000', 9), ('05000700000000010001', 10), ('04000100', 12), ('07000100', 13)]
     for s, n in small:
         b += FRESH + h(s) + f(6, 0, 0)
         no.append(n)
     b += FRESH + h('0200020001') * 2 + f(6, 0, 0)
     no.append(11)
     b += FRESH
-    for tag in (0x00, 0x08, 0xFF, 0x80, 0x81, 0x86, 0x87):
+    for tag in (0x00, 0x09, 0xFF, 0x80, 0x81, 0x86, 0x87):
         b += f(tag) + f(tag, 1)
         no += [1, 1]
     for tag, n in m.LENGTHS.items():
@@ -142,11 +142,19 @@ def refusals():
         no += [2, 2]
     b += f(4, bytes(300)) + f(1)
     no += [2, 2]
-    # the limits of each value: the first one outside is refused, the last one inside is not
+    due(b, no)
+    return b + limits()
+
+
+def limits():
+    """The limits of each value: the first one outside is refused, the last one inside is not."""
+    b, no = FRESH, []
     for body in ((0, 0, 0), (3, 0, 0), (255, 0, 0), (1, 2, 0), (1, 255, 0), (2, 0, 3), (1, 1, 255)):
         b += f(1, *body)
         no.append(4)
-    b += f(2, 31, 11) + f(2, 32, 11) + f(2, 255, 1) + f(2, 30, 0) + f(2, 30, 12) + f(2, 30, 255) + f(4, 31) + f(4, 31) + f(4, 32) + f(4, 255)
+    b += f(8, 1) + f(8, 2) + f(8, 255) + f(8, 0)
+    no += [4, 4]
+    b += f(2, 31, 13) + f(2, 32, 13) + f(2, 255, 1) + f(2, 30, 0) + f(2, 30, 14) + f(2, 30, 255) + f(4, 31) + f(4, 31) + f(4, 32) + f(4, 255)
     no += [5, 5, 7, 7, 7, 12, 5, 5]
     b += f(2, 0, D) + f(3, 0, 15, effects(10000, -10000, 10000)) + f(3, 0, 16, effects(0, 0, 0)) + f(3, 0, 255, effects(0, 0, 0))
     no += [6, 6]
@@ -169,7 +177,7 @@ def refusals():
 def orders():
     """Point 3: where two or more are due, the first; after each, looks that show the sheet as it was."""
     z, bad = effects(0, 0, 0), [effects(10001, 5, 5), effects(5, -10001, 5), effects(5, 5, 32767)]
-    full = [(f(2, 32, 0), 5), (f(2, 255, 12), 5), (f(2, 0, 0), 7), (f(2, 0, 12), 7), (f(2, 0, 1), 11), (f(2, 0, 9), 11), (f(2, 5, 0), 7),
+    full = [(f(2, 32, 0), 5), (f(2, 255, 14), 5), (f(2, 0, 0), 7), (f(2, 0, 14), 7), (f(2, 0, 1), 11), (f(2, 0, 9), 11), (f(2, 5, 0), 7),
             (f(3, 32, 16, z), 5), (f(3, 255, 255, bad[0]), 5), (f(3, 5, 16, z), 6), (f(3, 5, 16, bad[0]), 6), (f(3, 5, 0, z), 12),
             (f(3, 0, 1, bad[0]), 9), (f(3, 5, 1, effects(7, 7, 7)), 12),
             (f(4, 32), 5), (f(4, 5), 12), (f(6, 16, 3), 6), (f(6, 255, 255), 6), (f(6, 0, 3), 8), (f(7, 16), 6), (f(7, 1), 13)]
@@ -178,15 +186,16 @@ def orders():
     for x in (caps(0, 3, 3), caps(3, 10001, 3), caps(3, 3, 0), caps(0, 0, 0)):
         full += [(f(5, 16, x), 6), (f(5, 0, x), 10), (f(5, 1, x), 10)]
     full += [(f(1, *x), 4) for x in ((0, 0, 0), (2, 2, 0), (2, 1, 3), (3, 2, 3))]
+    full += [(f(8, 2), 4), (f(8, 255), 4), (f(8), 2), (f(8, 0, 0), 2), (f(8, 2, 0), 2)]
     # 1 before 2 and before any value of the body; 2 before each refusal of a body value and before 11, 12, 13
-    full += [(f(t, bytes([255] * n)), 1) for t in (0x00, 0x08, 0x7F, 0xFF) for n in (1, 2, 3, 8)]
-    full += [(f(1, 3, 2, 3, 0), 2), (f(1, 3, 2), 2), (f(2, 32, 12, 0), 2), (f(2, 32), 2), (f(2, 0, 1, 0), 2), (f(3, 32, 16, bad[0], 0), 2), (f(3, 32, 16), 2),
+    full += [(f(t, bytes([255] * n)), 1) for t in (0x00, 0x09, 0x7F, 0xFF) for n in (1, 2, 3, 8)]
+    full += [(f(1, 3, 2, 3, 0), 2), (f(1, 3, 2), 2), (f(2, 32, 14, 0), 2), (f(2, 32), 2), (f(2, 0, 1, 0), 2), (f(3, 32, 16, bad[0], 0), 2), (f(3, 32, 16), 2),
              (f(3, 5, 0, z, 0), 2), (f(4, 32, 32), 2), (f(4, 5, 5), 2), (f(5, 16, caps(0, 0, 0), 0), 2), (f(5, 16), 2), (f(5, 0, caps(0, 0, 0)[:5]), 2),
              (f(6, 16, 3, 0), 2), (f(6, 16), 2), (f(6, 0, 3, 0), 2), (f(7, 16, 0), 2), (f(7, 1, 1), 2)]
     # a unique combination at each look, so a changed factor, effect or capacity would show
-    b = f(1, 1, 1, 1)
+    b = f(1, 1, 1, 1) + f(8, 1)
     for c, k, e in ((0, D, (100, -40, 7)), (1, L, (50, 60, -30)), (2, W, (-200, 90, 15)), (3, W, (80, -70, -25)), (31, HP, (-35, 20, 11)),
-                    (4, FA, (9, 12, 4)), (6, FA, (-8, -9, -3))):
+                    (4, FA, (9, 12, 4)), (6, FA, (-8, -9, -3)), (7, DI, (90, 11, 80)), (8, WI, (15, -4, -60))):
         b += f(2, c, k) + f(3, c, 0, effects(*e))
     b += f(5, 0, caps(250, 90, 70))
     look = f(6, 0, 0) + f(6, 0, 1) + f(6, 0, 2) + f(7, 0) + f(4, 5) + f(7, 1)  # place 5 still empty, station 1 still without
@@ -227,18 +236,19 @@ def frames_by_hand():
     return b
 
 
-KINDS = [D, F, HP, HV, L, LR, S, R, W, E, FA, W, FA, E, HP]
+KINDS = [D, F, HP, HV, L, LR, S, R, W, E, FA, W, FA, E, HP, DI, WI, DI, WI]
 
 
 def settings():
-    return [(me, li, zo) for me in (1, 2) for zo in (0, 1, 2) for li in (0, 1)]
+    return [(me, li, zo, ice) for ice in (0, 1) for me in (1, 2) for zo in (0, 1, 2) for li in (0, 1)]
 
 
 def unique_station(values, cap):
     """The governing rows in all settings, or None where a look has more than one combination."""
     rows_seen = set()
-    for me, li, zo in settings():
+    for me, li, zo, ice in settings():
         s = m.Sheet(me, li, zo)
+        s.ice = ice
         s.kind = dict(enumerate(KINDS))
         s.effect = {(c, 0): v for c, v in enumerate(values)}
         u = (cap[1] * cap[2], cap[0] * cap[2], cap[0] * cap[1])
@@ -266,8 +276,8 @@ def search(tries, seed):
             top = rng.choice([20, 100, 400, 1500])
             return rng.choice([-1, 1]) * rng.randint(1, top)
         values = [tuple(num(k) for _ in range(3)) for k in KINDS]
-        # the second W, Fa, E and Hp pull the other way
-        for a, b in ((8, 11), (10, 12), (9, 13), (2, 14)):
+        # the second W, Fa, E, Hp, Di and Wi pull the other way
+        for a, b in ((8, 11), (10, 12), (9, 13), (2, 14), (15, 17), (16, 18)):
             values[b] = tuple((-1 if x > 0 else 1) * abs(y) for x, y in zip(values[a], values[b]))
         cap = tuple(rng.randint(200, 3000) for _ in range(3))
         got = unique_station(values, cap)
@@ -278,11 +288,11 @@ def search(tries, seed):
 
 
 def every_setting():
-    """Point 5: methods, zones and live options, a case of each kind (W, E, Fa and Hp twice), five stations, no ties."""
+    """Point 5: methods, zones, live options and ice, a case of each kind (W, E, Fa, Hp, Di and Wi twice), five stations, no ties."""
     b = b''
     assert all(unique_station(v, c) for _, v, c in STATIONS)
-    for me, li, zo in settings():
-        b += f(1, me, li, zo)
+    for me, li, zo, ice in settings():
+        b += f(1, me, li, zo) + f(8, 1) * ice
         for c, k in enumerate(KINDS):
             b += f(2, c, k)
         for st, values, cap in STATIONS:
@@ -302,6 +312,21 @@ def groups():
     return b
 
 
+def ice():
+    """Point 8: sheets with ice worked by hand, the switch, the saved form, two or more of Di and Wi, and sheets that show any factor of
+    an ice row."""
+    sheets = m.ice_sheets()
+    for fields, (_, _, *want) in zip(sheets, m.ICE_WORKED):
+        a = run(b''.join(fields))[1][-1][1]
+        hi, row_hi, _, _, lo, row_lo, _, _ = struct.unpack('>qBIIqBII', a[3:])
+        assert [hi, lo] == want[:2] and want[2] in (None, row_hi) and want[3] in (None, row_lo), (want, a.hex())
+    for seed in m.SHOWING_ICE:
+        sheets.append(m.showing(seed, 1))
+    b = b''.join(b''.join(fields) for fields in sheets + [m.ice_switch(), m.together(1)])
+    due(b, [4, 4, 2, 2, 4, 2, 2, 13])
+    return b
+
+
 def long_fields():
     """Whole fields of the greatest length: an unknown tag, a known one; the sheet stays."""
     look = f(6, 0, 0) + f(7, 0)
@@ -312,7 +337,8 @@ def long_fields():
 
 
 POINTS = {'1_worked_exchange_p2': lambda: P2_IN, '2_each_refusal': refusals, '3_refusal_orders': orders, '4_p1_to_p10': frames_by_hand,
-          '5_methods_zones_live_options': every_setting, '6_groups': groups, '7_long_fields': long_fields}
+          '5_methods_zones_live_options': every_setting, '6_groups': groups, '7_long_fields': long_fields,
+          '8_ice': ice}
 BUFFER = 65536  # what `frames` reads in one turn, at most
 
 

@@ -7,7 +7,7 @@ import os
 import random
 import struct
 
-D, F, HP, HV, L, LR, S, R, W, E, FA = range(1, 12)
+D, F, HP, HV, L, LR, S, R, W, E, FA, DI, WI = range(1, 14)
 
 # SCOPE 3.2 and 3.3, column by column: D F L roof snow-only W E H. 'f' is the live option's factor.
 PLAIN = {
@@ -30,9 +30,18 @@ PLAIN = {
     29: dict(D=600, W=600, H=1000),
     30: dict(D=600, F=600, E=700, H=1000),
 }
+# SCOPE 3.4: an ice row is a plain row without some columns and with others.
+ICE = {
+    13: (2, ('roof',), dict(snow=500, Di=200)),
+    14: (5, ('W', 'roof'), dict(snow=500, Di=1000, Wi=1000)),
+    15: (7, ('W',), dict(Di=1000, Wi=1000)),
+    41: (22, (), dict(Di=700)),
+    42: (23, ('roof',), dict(snow=1000, Di=700, Wi=700)),
+    43: (29, ('W',), dict(Di=700, Wi=700)),
+}
 
 
-def rows(method, zone):
+def rows(method, zone, ice=0):
     """Open rows: number -> columns."""
     if method == 1:
         out = {r: dict(PLAIN[r]) for r in range(1, 9)}
@@ -48,6 +57,9 @@ def rows(method, zone):
         if first:
             for k in range(5):
                 out[first + k] = dict(PLAIN[25 + k], E=0, Fa=fa)
+    for r, (of, without, added) in ICE.items():
+        if ice and of in out:
+            out[r] = {**{c: x for c, x in PLAIN[of].items() if c not in without}, **added}
     return out
 
 
@@ -57,15 +69,19 @@ def column_factor(cols, kind, live):
     elif kind == S:
         f = cols.get('roof', 0) or cols.get('snow', 0)
     else:
-        f = cols.get({D: 'D', F: 'F', HP: 'H', HV: 'H', L: 'L', W: 'W', E: 'E', FA: 'Fa'}[kind], 0)
+        f = cols.get({D: 'D', F: 'F', HP: 'H', HV: 'H', L: 'L', W: 'W', E: 'E', FA: 'Fa', DI: 'Di', WI: 'Wi'}[kind], 0)
     if f == 'f':
         f = 500 if live else 1000
     return f
 
 
+# SCOPE 4.2: the kinds of which at most one case acts, by their group.
+GROUPS = {LR: 'roof', S: 'roof', R: 'roof', W: 'W', E: 'E', FA: 'Fa', DI: 'Di', WI: 'Wi'}
+
+
 class Sheet:
     def __init__(self, method=1, live=0, zone=0):
-        self.method, self.live, self.zone = method, live, zone
+        self.method, self.live, self.zone, self.ice = method, live, zone, 0
         self.kind = {}
         self.effect = {}
         self.cap = {}
@@ -73,9 +89,9 @@ class Sheet:
     def combos(self):
         """Every admissible combination: (row, {case: factor}, acting mask, low mask), by building them."""
         low = 900 if self.method == 1 else 600
-        for row, cols in rows(self.method, self.zone).items():
+        for row, cols in rows(self.method, self.zone, self.ice).items():
             choices = []
-            groups = {'roof': [], 'W': [], 'E': [], 'Fa': []}
+            groups = {g: [] for g in GROUPS.values()}
             for c, k in sorted(self.kind.items()):
                 f = column_factor(cols, k, self.live)
                 if not f:
@@ -87,7 +103,7 @@ class Sheet:
                 elif k in (L, HV):
                     choices.append([(), ((c, f, False),)])
                 else:
-                    groups[{LR: 'roof', S: 'roof', R: 'roof', W: 'W', E: 'E', FA: 'Fa'}[k]].append((c, f, False))
+                    groups[GROUPS[k]].append((c, f, False))
             for g in groups.values():
                 choices.append([()] + [(x,) for x in g])
             for pick in itertools.product(*choices):
@@ -111,8 +127,16 @@ class Sheet:
         hi = max(b[0] for b in best)
         return rng.choice([b for b in best if b[0] == hi]), 1000 * nc * yc * zc
 
+    def saved(self):
+        """The saved form, SCOPE 8.1."""
+        out = [f(1, self.method, self.live, self.zone)] + [f(8, 1)] * self.ice
+        for c, k in sorted(self.kind.items()):
+            out.append(f(2, c, k))
+            out += [f(3, c, st, effects(*self.eff(c, st))) for st in range(16) if any(self.eff(c, st))]
+        return b''.join(out + [f(5, st, caps(*c)) for st, c in sorted(self.cap.items())])
 
-LENGTHS = {1: 3, 2: 2, 3: 8, 4: 1, 5: 7, 6: 2, 7: 1}
+
+LENGTHS = {1: 3, 2: 2, 3: 8, 4: 1, 5: 7, 6: 2, 7: 1, 8: 1}
 
 
 def refusal(s, b):
@@ -128,13 +152,14 @@ def refusal(s, b):
     d = b[3:3 + n]
     checks = {
         1: lambda: [4 * (d[0] not in (1, 2)), 4 * (d[1] > 1), 4 * (d[2] > 2)],
-        2: lambda: [5 * (d[0] > 31), 7 * (not 1 <= d[1] <= 11), 11 * (d[0] in s.kind)],
+        2: lambda: [5 * (d[0] > 31), 7 * (not 1 <= d[1] <= 13), 11 * (d[0] in s.kind)],
         3: lambda: [5 * (d[0] > 31), 6 * (d[1] > 15)] + [9 * (abs(e) > 10000) for e in struct.unpack('>3h', d[2:])]
         + [12 * (d[0] not in s.kind)],
         4: lambda: [5 * (d[0] > 31), 12 * (d[0] not in s.kind)],
         5: lambda: [6 * (d[0] > 15)] + [10 * (not 1 <= c <= 10000) for c in struct.unpack('>3H', d[1:])],
         6: lambda: [6 * (d[0] > 15), 8 * (d[1] > 2)],
         7: lambda: [6 * (d[0] > 15), 13 * (d[0] not in s.cap)],
+        8: lambda: [4 * (d[0] > 1)],
     }
     return next((x for x in checks[tag]() if x), 0)
 
@@ -159,6 +184,8 @@ def serve(s, b, rng):
     elif tag == 6:
         (hi, r1, a1, l1), (lo, r2, a2, l2) = s.extremes(d[0], d[1], rng)
         return s, bytes([0x86, 0, 34]) + struct.pack('>qBIIqBII', hi, r1, a1, l1, lo, r2, a2, l2)
+    elif tag == 8:
+        s.ice = d[0]
     else:
         (num, r, a, l), den = s.utilisation(d[0], rng)
         return s, bytes([0x87, 0, 26]) + struct.pack('>qqBBII', num, den, int(num <= den), r, a, l)
@@ -178,13 +205,16 @@ def caps(*v):
     return struct.pack('>3H', *v)
 
 
+def sheet(cases, method=1, live=0, zone=0, ice=0):
+    """Cases from place 0 on, with effects on N at station 0."""
+    out = [f(1, method, live, zone)] + [f(8, 1)] * ice
+    for i, (k, n) in enumerate(cases):
+        out += [f(2, i, k), f(3, i, 0, effects(n, 0, 0))]
+    return out
+
+
 def worked():
     """The frames worked by hand, P1 to P10, and the value each must show at its look."""
-    def sheet(cases, method=1, live=0, zone=0):
-        out = [f(1, method, live, zone)]
-        for i, (k, n) in enumerate(cases):
-            out += [f(2, i, k), f(3, i, 0, effects(n, 0, 0))]
-        return out
     p2 = [(D, 100), (L, 50), (W, -200), (W, 80)]
     look = [f(6, 0, 0)]
     use = lambda n: [f(5, 0, caps(n, 10, 10)), f(7, 0)]
@@ -196,6 +226,51 @@ def worked():
         (sheet([(L, 40), (E, 20), (S, 8)], method=2) + look, 46500, None), (sheet([(F, -30), (W, 100)]) + look, 100000, None),
         (sheet([(S, 100), (R, 100)]) + look, 160000, None),
     ]
+
+
+# Sheets with ice, worked by hand: cases, settings, maximum, minimum, and the row of each that is the only one to reach it.
+ICE_WORKED = [
+    # ice off: Di and Wi have no factor in any row
+    ([(D, 100), (DI, 100), (WI, 50)], dict(), 140000, 90000, 1, None),
+    ([(D, 100), (DI, 100), (WI, -300)], dict(method=2), 100000, 60000, None, None),
+    ([(DI, 100), (WI, -50)], dict(zone=1), 0, 0, None, None),
+    ([(DI, 100), (WI, -50)], dict(method=2, zone=2), 0, 0, None, None),
+    # each ice row
+    ([(D, 100), (L, 300), (S, 100), (DI, 100)], dict(ice=1), 670000, 90000, 13, None),
+    ([(D, 100), (DI, 100), (WI, 50)], dict(ice=1), 270000, 90000, 14, None),
+    ([(D, 100), (WI, -300)], dict(ice=1), 140000, -210000, 1, 15),
+    ([(D, 100), (L, 100), (DI, 100)], dict(method=2, ice=1), 270000, 60000, 41, None),
+    ([(D, 100), (DI, 100), (WI, 50), (S, 10)], dict(method=2, ice=1), 215000, 60000, 42, None),
+    ([(D, 100), (WI, -300)], dict(method=2, ice=1), 100000, -150000, None, 43),
+    # S is the whole roof load: Lr and R have no factor
+    ([(LR, 100), (R, 120), (DI, 200)], dict(ice=1), 200000, 0, None, None),
+    ([(LR, 100), (S, 40), (DI, 200)], dict(ice=1), 220000, 0, 14, None),
+    ([(L, 300), (LR, 100), (S, 40), (DI, 200)], dict(ice=1), 540000, 0, 13, None),
+    ([(LR, 100), (S, 40), (DI, 200)], dict(method=2, ice=1), 180000, 0, 42, None),
+    ([(S, 40), (S, 50), (DI, 200)], dict(ice=1), 225000, 0, 14, None),
+    # W and Wi are not combined, and neither are Fa and Di
+    ([(W, 100), (WI, 50)], dict(ice=1), 100000, 0, None, None),
+    ([(W, 100), (WI, 100)], dict(method=2, ice=1), 70000, 0, None, None),
+    ([(FA, 100), (DI, 100)], dict(zone=1, ice=1), 200000, 0, None, None),
+    ([(FA, 100), (DI, 100)], dict(zone=2, ice=1), 100000, 0, None, None),
+    ([(FA, 100), (DI, 100)], dict(method=2, zone=1, ice=1), 150000, 0, None, None),
+    ([(FA, 100), (DI, 110)], dict(method=2, zone=2, ice=1), 77000, 0, None, None),
+    # at most one Di and one Wi; either may be left out
+    ([(DI, 100), (DI, 90), (WI, 50), (WI, 40)], dict(ice=1), 150000, 0, None, None),
+    ([(DI, -100), (DI, -90), (WI, -50), (WI, -40)], dict(method=2, ice=1), 0, -105000, None, None),
+    ([(DI, -100), (WI, 50)], dict(ice=1), 50000, -100000, None, None),
+    ([(DI, 100), (WI, -50)], dict(method=2, ice=1), 70000, -35000, None, None),
+    # the live option reaches row 14 and not row 13
+    ([(L, 100), (DI, 200)], dict(ice=1), 300000, 0, 14, None),
+    ([(L, 100), (DI, 200)], dict(live=1, ice=1), 250000, 0, 14, None),
+    ([(L, 200), (DI, 100)], dict(live=1, ice=1), 340000, 0, 13, None),
+    ([(L, 100), (DI, 200)], dict(method=2, live=1, ice=1), 240000, 0, 41, None),
+    # F has no factor in rows 15 and 43; Hp may take the low factor
+    ([(F, -30), (WI, 100)], dict(ice=1), 100000, -42000, 15, 1),
+    ([(F, -30), (WI, 100)], dict(method=2, ice=1), 70000, -30000, 43, None),
+    ([(WI, 100), (HP, -50)], dict(ice=1), 55000, -80000, None, None),
+    ([(WI, 100), (HP, -50)], dict(method=2, ice=1), 40000, -50000, None, None),
+]
 
 
 def value(rng):
@@ -213,46 +288,82 @@ def capacity(rng):
 SHOWING = [12154, 36977, 45043, 49341, 26303, 6421, 40418, 2126, 6729, 32514, 31733, 42647, 38221, 37425, 237, 46471, 7534,
            30261, 311, 5432, 6395, 1367, 1828, 9527, 41865, 44027, 22083, 35487, 14, 15985, 1458, 6174, 52864, 4466, 6402,
            10990, 15488, 37062, 90, 154, 400, 426]
+# The same for the ice rows, Lr and R apart: all 106 changes.
+SHOWING_ICE = [10097, 7031, 10980, 2172, 234, 2454, 145, 284, 1395, 659, 2, 318, 444, 458, 9889]
 
 
-def showing(seed):
+def showing(seed, ice=0):
     rng = random.Random(seed)
     method, live = rng.randint(1, 2), rng.randint(0, 1)
     zone = rng.choice([0, 1, 1, 2, 2])
-    cols = rng.choice(list(rows(method, zone).values()))
-    own = [k for k in range(1, 12) if column_factor(cols, k, live)]
-    kinds = [rng.choice(own) for _ in range(rng.randint(1, 4))] + [rng.randint(1, 11) for _ in range(rng.randint(1, 2))]
-    out = [f(1, method, live, zone)]
+    last = WI if ice else FA
+    cols = rng.choice([c for r, c in rows(method, zone, ice).items() if not ice or r in ICE])
+    own = [k for k in range(D, last + 1) if column_factor(cols, k, live)]
+    kinds = [rng.choice(own) for _ in range(rng.randint(1, 4))] + [rng.randint(D, last) for _ in range(rng.randint(1, 2))]
+    out = [f(1, method, live, zone)] + [f(8, 1)] * ice
     for i, k in enumerate(kinds):
         e = [rng.choice([-1, 1]) * rng.choice([0, 10, 30, 100, 200, 500, 1000, rng.randint(1, 1000)]) for _ in range(3)]
         out += [f(2, i, k), f(3, i, seed % 16, effects(*e))]
     return out + [f(6, seed % 16, k) for k in range(3)]
 
 
-BAD = [f(0x7F), f(0), f(8, 0), f(4, 0, 0), f(1, 3, 0, 0), f(1, 0, 0, 0), f(1, 1, 2, 0), f(1, 2, 0, 3), f(4, 32), f(7, 16), f(6, 16, 3),
-       f(6, 0, 3), f(2, 0, 12), f(2, 32, 0), f(2, 31, 0), f(3, 0, 0, effects(10001, 0, 0)), f(3, 0, 0, effects(0, -10001, 0)),
+BAD = [f(0x7F), f(0), f(9, 0), f(8), f(8, 2), f(8, 1, 1), f(8, 255), f(4, 0, 0), f(1, 3, 0, 0), f(1, 0, 0, 0), f(1, 1, 2, 0), f(1, 2, 0, 3), f(4, 32), f(7, 16), f(6, 16, 3),
+       f(6, 0, 3), f(2, 0, 14), f(2, 32, 0), f(2, 31, 0), f(3, 0, 0, effects(10001, 0, 0)), f(3, 0, 0, effects(0, -10001, 0)),
        f(3, 0, 16, effects(0, 0, 10001)), f(3, 32, 16, effects(0, 0, 0)), f(3, 0, 0, effects(0, 0, -32768)), f(5, 0, caps(0, 1, 1)),
        f(5, 0, caps(1, 10001, 1)), f(5, 0, caps(1, 1, 65535)), f(5, 16, caps(0, 0, 0)), f(6, 0), f(7), f(3, 0, 0), f(2, 0, 1, 1),
        f(0x86, 0), f(0xFF, 0, 0)]
 
 
-def generate(rng, looks=200):
+def edits(rng, filled, st, bad):
+    """What may follow a look at a station: an edit, or fields that are refused."""
+    out = []
+    act = rng.random()
+    if act < .2 and filled:
+        c = rng.choice(list(filled))
+        out.append(f(4, c))
+        del filled[c]
+        if rng.random() < .7:
+            k = rng.randint(D, WI)
+            out.append(f(2, c, k))
+            filled[c] = k
+            if rng.random() < .7:
+                out.append(f(3, c, st, effects(*(value(rng) for _ in range(3)))))
+    elif act < .5 and filled:
+        out.append(f(3, rng.choice(list(filled)), st, effects(*(value(rng) for _ in range(3)))))
+    elif act < .65:
+        out.append(f(5, st, caps(*(capacity(rng) for _ in range(3)))))
+    elif act < .85:
+        out.append(next(bad))
+        if rng.random() < .4:
+            out.append(f(4, rng.randint(0, 31)) if rng.random() < .1 and not filled else
+                       f(2, rng.choice(list(filled)), rng.randint(D, WI)) if filled else f(4, 5))
+        if len(filled) < 32:
+            empty = rng.choice([c for c in range(32) if c not in filled])
+            out.append(f(3, empty, 0, effects(1, 1, 1)) if rng.random() < .5 else f(4, empty))
+    elif act < .92:
+        out.append(f(8, rng.randint(0, 1)))
+    return out
+
+
+def generate(rng, looks=185):
     out = []
     bad = itertools.cycle(BAD)
     for fields, _, _ in worked():
         out += fields
     for seed in SHOWING:
         out += showing(seed)
+    for seed in SHOWING_ICE:
+        out += showing(seed, 1)
     seen = 12
     turn = 0
     while seen < looks:
         method, live, zone = turn % 2 + 1, turn // 2 % 2, turn // 4 % 3
         turn += 1
-        out.append(f(1, method, live, zone))
+        out += [f(1, method, live, zone)] + [f(8, 1)] * (turn // 12 % 2)
         filled = {}
         stations = rng.sample(range(16), 2) if turn % 3 else [0, 15]
         n = rng.randint(0, 7) if turn % 4 else 7
-        kinds = [(turn + i) % 11 + 1 for i in range(n)] if turn % 2 else [rng.randint(1, 11) for _ in range(n)]
+        kinds = [(turn + i) % WI + 1 for i in range(n)] if turn % 2 else [rng.randint(D, WI) for _ in range(n)]
         places = rng.sample(range(32), n) if turn % 5 else [31 - i for i in range(n)]
         for c, k in zip(places, kinds):
             out.append(f(2, c, k))
@@ -270,51 +381,31 @@ def generate(rng, looks=200):
             st = rng.choice(stations) if rng.random() < .93 else rng.randint(0, 15)
             out.append(f(6, st, rng.randint(0, 2)) if rng.random() < .55 else f(7, st))
             seen += 1
-            act = rng.random()
-            if act < .2 and filled:
-                c = rng.choice(list(filled))
-                out.append(f(4, c))
-                del filled[c]
-                if rng.random() < .7:
-                    k = rng.randint(1, 11)
-                    out.append(f(2, c, k))
-                    filled[c] = k
-                    if rng.random() < .7:
-                        out.append(f(3, c, st, effects(*(value(rng) for _ in range(3)))))
-            elif act < .5 and filled:
-                out.append(f(3, rng.choice(list(filled)), st, effects(*(value(rng) for _ in range(3)))))
-            elif act < .65:
-                out.append(f(5, st, caps(*(capacity(rng) for _ in range(3)))))
-            elif act < .85:
-                out.append(next(bad))
-                if rng.random() < .4:
-                    out.append(f(4, rng.randint(0, 31)) if rng.random() < .1 and not filled else
-                               f(2, rng.choice(list(filled)), rng.randint(1, 11)) if filled else f(4, 5))
-                if len(filled) < 32:
-                    empty = rng.choice([c for c in range(32) if c not in filled])
-                    out.append(f(3, empty, 0, effects(1, 1, 1)) if rng.random() < .5 else f(4, empty))
+            out += edits(rng, filled, st, bad)
     return out
 
 
 def before_any_settings():
-    """Fields for a sheet that no tag 01 has set: method 1, live option 0, zone 0. Option 1 would halve L in row 3, zone 1 or 2 would
-    let Fa act, and method 2 has other rows."""
+    """Fields for a sheet that no tag 01 has set: method 1, live option 0, zone 0, ice off. Option 1 would halve L in row 3, zone 1 or 2
+    would let Fa act, ice would let Di and Wi act, and method 2 has other rows."""
     out = [f(6, 0, 0), f(7, 0)]
-    for c, (k, e) in enumerate([(D, (10, -20, 0)), (L, (300, 50, -7)), (LR, (200, 40, 0)), (FA, (500, -900, 30)), (W, (20, -30, 0))]):
+    for c, (k, e) in enumerate([(D, (10, -20, 0)), (L, (300, 50, -7)), (LR, (200, 40, 0)), (FA, (500, -900, 30)), (W, (20, -30, 0)),
+                                (DI, (900, 800, -60)), (WI, (-700, -600, 50))]):
         out += [f(2, c, k), f(3, c, 3, effects(*e))]
     return out + [f(5, 3, caps(700, 800, 900))] + [f(6, 3, k) for k in range(3)] + [f(7, 3)]
 
 
 # Two or more of each kind of which at most one may act, all with effects of one sign: two at once would show.
 TOGETHER = [[D, W, W], [D, E, E], [D, FA, FA, W], [LR, S, R], [D, LR, LR, S, S, R, R], [W, W, E, E, FA, FA], [D, L, S, S, E, E]]
+TOGETHER_ICE = [[D, DI, DI], [D, WI, WI], [DI, DI, WI, WI, W, FA], [L, S, S, R, DI, DI], [F, LR, S, WI, WI, E]]
 
 
-def together():
+def together(ice=0):
     out = []
     for method, zone in [(1, 0), (1, 1), (1, 2), (2, 0), (2, 1), (2, 2)]:
-        for kinds in TOGETHER:
+        for kinds in TOGETHER_ICE if ice else TOGETHER:
             for sign in (1, -1):
-                out.append(f(1, method, zone % 2, zone))
+                out += [f(1, method, zone % 2, zone)] + [f(8, 1)] * ice
                 for c, k in enumerate(kinds):
                     v = sign * (100 + 10 * c)
                     out += [f(2, c, k), f(3, c, 8, effects(v, 2 * v, -v))]
@@ -329,6 +420,41 @@ def saved_forms():
         out += [f(3, 31, 15 - st, effects(*e)), f(3, 0, st, effects(*e))]
     out += [f(3, 31, 15, effects(0, 0, 0)), f(5, 15, caps(1, 10000, 256)), f(5, 0, caps(255, 1, 9999)), f(4, 0), f(2, 0, S)]
     return out + [f(3, 0, 7, effects(0, 0, 0)), f(5, 15, caps(2, 2, 2)), f(6, 15, 0), f(7, 15)]
+
+
+def ice_sheets():
+    """ICE_WORKED as fields, each with its look."""
+    return [sheet(cases, **how) + [f(6, 0, 0)] for cases, how, *_ in ICE_WORKED]
+
+
+def ice_switch():
+    """Tag 08: the sheet but for the switch stays; a byte above 1 and a wrong length leave the switch; tag 01 turns it off. A saved
+    sheet, read on another one, is that sheet."""
+    looks = [f(6, 0, k) for k in range(3)] + [f(7, 0)]
+    made = [f(2, 0, D), f(2, 1, DI), f(2, 31, WI), f(2, 30, L)]
+    for c, e in ((0, (100, -40, 7)), (1, (60, 20, -9)), (31, (-300, 80, 11)), (30, (33, -5, 2))):
+        made.append(f(3, c, 0, effects(*e)))
+    made.append(f(5, 0, caps(270, 90, 70)))
+    out = [f(1, 1, 0, 0)] + made + looks
+    for b in ([f(8, 1)], [f(8, 2), f(8, 255), f(8), f(8, 0, 0)], [f(8, 1)], [f(8, 0)], [f(8, 2), f(8), f(8, 1, 0)], [f(8, 0)]):
+        out += b + looks
+    out += [f(8, 1)] + looks + [f(1, 1, 0, 0)] + looks + made + looks
+    out += [f(1, 2, 1, 2), f(8, 1)] + made + looks + [f(4, 1), f(4, 31)] + looks
+    s = Sheet(2, 1, 1)
+    s.ice, s.kind, s.cap = 1, {3: WI, 7: DI, 8: S}, {0: (90, 80, 70)}
+    s.effect = {(3, 0): (-100, 0, 9), (7, 0): (50, 60, 70), (8, 0): (0, 0, -20), (8, 5): (0, 0, 0)}
+    assert s.saved().startswith(bytes.fromhex('010003020101 08000101 020002030D 0300080300FF9C00000009 020002070C'))
+    again = fields_of(s.saved())
+    return out + again + looks + [f(1, 1, 0, 0), f(2, 3, L)] + again + looks + again[:1] + again[2:] + looks
+
+
+def fields_of(b):
+    """The whole fields in these bytes."""
+    out = []
+    while b:
+        n = 3 + (b[1] << 8 | b[2])
+        out, b = out + [b[:n]], b[n:]
+    return out
 
 
 def long_fields():
@@ -356,12 +482,25 @@ def check_worked(rng):
             assert a[11] == 7
 
 
+def check_ice(rng):
+    """The sheets with ice give the numbers worked by hand, in the row named where it is the only one."""
+    for fields, (_, _, *want) in zip(ice_sheets(), ICE_WORKED):
+        s = Sheet()
+        for b in fields:
+            s, a = serve(s, b, rng)
+        hi, row_hi, _, _, lo, row_lo, _, _ = struct.unpack('>qBIIqBII', a[3:])
+        assert [hi, lo] == want[:2], (want, hi, lo)
+        assert want[2] in (None, row_hi) and want[3] in (None, row_lo), (want, row_hi, row_lo)
+
+
 def main():
     here = os.path.dirname(os.path.abspath(__file__))
     rng = random.Random(20)
     check_worked(rng)
+    check_ice(rng)
     # The last readings get a 3, where a service stops: a length above 60,000, and a field that is cut short.
-    fields = before_any_settings() + generate(rng) + together() + saved_forms() + long_fields() + [bytes.fromhex('01000301')]
+    ice = [b for fields in ice_sheets() for b in fields] + ice_switch()
+    fields = before_any_settings() + generate(rng) + together() + saved_forms() + ice + long_fields() + [bytes.fromhex('01000301')]
     s, answers = Sheet(), []
     for b in fields:
         s, a = serve(s, b, rng)

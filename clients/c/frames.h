@@ -16,8 +16,8 @@ extern "C" {
 /* The longest answer: `output` has this many bytes for each field. */
 #define FRAMES_ANSWER 37
 
-/* The longest saved sheet: `saved` has this many bytes. */
-#define FRAMES_SAVED 5958
+/* `saved` has this many bytes. Every saved sheet is shorter. */
+#define FRAMES_SAVED 8192
 
 typedef struct {
     uint8_t refusal; /* the number of the refusal of the whole call, or 0 */
@@ -55,10 +55,10 @@ static inline const char *frames_refusal_text(uint8_t refusal)
     case 1: return "unknown tag";
     case 2: return "the length is not the tag's";
     case 3: return "the field is cut short or too long";
-    case 4: return "no such method, live option or zone";
+    case 4: return "no such method, live option, zone or ice switch";
     case 5: return "the case is not 0 to 31";
     case 6: return "the station is not 0 to 15";
-    case 7: return "the kind is not 1 to 11";
+    case 7: return "the kind is not 1 to 13";
     case 8: return "the component is not 0 to 2";
     case 9: return "an effect is not -10,000 to 10,000";
     case 10: return "a capacity is not 1 to 10,000";

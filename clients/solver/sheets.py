@@ -19,6 +19,7 @@ def random_sheet(rng: Random, places: int) -> Sheet:
         method=rng.choice((STRENGTH, ALLOWABLE)),
         live=rng.randrange(2),
         zone=rng.randrange(3),
+        ice=rng.randrange(2),
         cases={k: Case(rng.choice(kinds), random_effects(rng, largest)) for k in sorted(rng.sample(range(32), places))},
         station=rng.randrange(16),
         capacities=(rng.randint(1, capacity), rng.randint(1, capacity), rng.randint(1, capacity)),

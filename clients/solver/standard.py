@@ -19,12 +19,17 @@ class Kind(IntEnum):
     W = 9
     E = 10
     FA = 11
+    DI = 12
+    WI = 13
 
 
 STRENGTH, ALLOWABLE = 1, 2
 ALWAYS_ACTING = frozenset({Kind.D, Kind.F, Kind.HP})
 ANY_SUBSET = frozenset({Kind.L, Kind.HV})
-AT_MOST_ONE = (frozenset({Kind.LR, Kind.S, Kind.R}), frozenset({Kind.W}), frozenset({Kind.E}), frozenset({Kind.FA}))
+AT_MOST_ONE = (
+    frozenset({Kind.LR, Kind.S, Kind.R}), frozenset({Kind.W}), frozenset({Kind.E}), frozenset({Kind.FA}), frozenset({Kind.DI}),
+    frozenset({Kind.WI}),
+)
 
 Factors = dict[Kind, int]
 
@@ -42,6 +47,7 @@ class Sheet:
     method: int
     live: int
     zone: int
+    ice: int
     cases: dict[int, Case]
     station: int
     capacities: tuple[int, int, int]
@@ -58,7 +64,7 @@ def line(d: int, f: int, l: int = 0, roof: int = 0, w: int = 0, e: int = 0, h: i
     """A line of the standard. `roof` is the factor of Lr, S and R, `snow` that of S where S alone may act."""
     return {
         Kind.D: d, Kind.F: f, Kind.HP: h, Kind.HV: h, Kind.L: l, Kind.LR: roof, Kind.S: roof or snow, Kind.R: roof,
-        Kind.W: w, Kind.E: e, Kind.FA: 0,
+        Kind.W: w, Kind.E: e, Kind.FA: 0, Kind.DI: 0, Kind.WI: 0,
     }
 
 
@@ -100,9 +106,29 @@ def flood_rows(sheet: Sheet, plain: dict[int, Factors]) -> dict[int, Factors]:
     return {row: plain[of] | {Kind.W: 500, Kind.FA: 1000} for row, of in ((11, 5), (12, 7))}
 
 
+def ice_rows(sheet: Sheet, plain: dict[int, Factors]) -> dict[int, Factors]:
+    if sheet.ice == 0:
+        return {}
+    if sheet.method == ALLOWABLE:
+        return {
+            41: plain[22] | {Kind.DI: 700},
+            42: plain[23] | snow_alone(1000) | {Kind.DI: 700, Kind.WI: 700},
+            43: plain[29] | {Kind.W: 0, Kind.DI: 700, Kind.WI: 700},
+        }
+    return {
+        13: plain[2] | snow_alone(500) | {Kind.DI: 200},
+        14: plain[5] | snow_alone(500) | {Kind.W: 0, Kind.DI: 1000, Kind.WI: 1000},
+        15: plain[7] | {Kind.W: 0, Kind.DI: 1000, Kind.WI: 1000},
+    }
+
+
+def snow_alone(factor: int) -> Factors:
+    return {Kind.LR: 0, Kind.S: factor, Kind.R: 0}
+
+
 def open_rows(sheet: Sheet) -> dict[int, Factors]:
     plain = plain_rows(sheet)
-    return plain | flood_rows(sheet, plain)
+    return plain | flood_rows(sheet, plain) | ice_rows(sheet, plain)
 
 
 def low_factor(sheet: Sheet) -> int:

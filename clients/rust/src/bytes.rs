@@ -8,8 +8,8 @@ use crate::Refusal;
 /// The longest answer. An output must have this many bytes for each field.
 pub const ANSWER: usize = 37;
 
-/// The longest saved sheet. A buffer to save into must have this many bytes.
-pub const SAVED: usize = 5958;
+/// A buffer to save into must have this many bytes. Every saved sheet is shorter.
+pub const SAVED: usize = 8192;
 
 /// How many bytes a call of [`run`] wrote.
 #[derive(Clone, Copy, Debug, PartialEq, Eq)]

@@ -4,10 +4,10 @@ use crate::wire::split;
 #[derive(Clone, Copy, Debug, Default, PartialEq, Eq, Hash)]
 #[repr(u8)]
 pub enum Method {
-    /// Strength design, rows 1 to 12.
+    /// Strength design, rows 1 to 15.
     #[default]
     Strength = 1,
-    /// Allowable stress design, rows 21 to 40.
+    /// Allowable stress design, rows 21 to 43.
     Allowable = 2,
 }
 
@@ -35,7 +35,8 @@ pub enum Zone {
     Noncoastal = 2,
 }
 
-/// What a sheet sets for all its combinations. The default is that of a fresh sheet.
+/// What a sheet sets for all its combinations when it starts. The default is that of a fresh sheet. Ice is switched apart
+/// ([`Field::SetIce`]) and is off at the start.
 #[derive(Clone, Copy, Debug, Default, PartialEq, Eq, Hash)]
 pub struct Settings {
     /// Strength or allowable stress.
@@ -72,6 +73,10 @@ pub enum Kind {
     Earthquake = 10,
     /// Fa, flood: at most one case acts.
     Flood = 11,
+    /// Di, weight of ice: at most one case acts, where ice is on.
+    Ice = 12,
+    /// Wi, wind on ice: at most one case acts, where ice is on.
+    WindOnIce = 13,
 }
 
 /// A component of the effects at a station.
@@ -104,7 +109,7 @@ macro_rules! numbered {
 numbered!(Method: Strength Allowable);
 numbered!(LiveOption: Full Half);
 numbered!(Zone: NoFlood Coastal Noncoastal);
-numbered!(Kind: Dead Fluid EarthPermanent EarthOther Live RoofLive Snow Rain Wind Earthquake Flood);
+numbered!(Kind: Dead Fluid EarthPermanent EarthOther Live RoofLive Snow Rain Wind Earthquake Flood Ice WindOnIce);
 numbered!(Component: N My Mz);
 
 /// The effects of a case at a station: N in tenths of a kN, moments in tenths of a kN m.
@@ -174,6 +179,11 @@ pub enum Field {
         /// The station, 0 to 15; it must have capacities.
         station: u8,
     },
+    /// Opens the combinations with ice, or closes them.
+    SetIce {
+        /// Whether they are open.
+        on: bool,
+    },
 }
 
 impl Field {
@@ -217,6 +227,7 @@ impl Field {
                 component: Component::from_number(component)?,
             },
             (7, &[station]) => Field::Utilisation { station },
+            (8, &[on @ (0 | 1)]) => Field::SetIce { on: on == 1 },
             _ => return None,
         };
         Some((field, rest))
@@ -245,6 +256,7 @@ impl Field {
             }
             Field::Extremes { station, component } => Encoded::new(6, &[station, component as u8]),
             Field::Utilisation { station } => Encoded::new(7, &[station]),
+            Field::SetIce { on } => Encoded::new(8, &[u8::from(on)]),
         }
     }
 }

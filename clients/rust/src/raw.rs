@@ -31,7 +31,7 @@ extern "C" {
         output_len: usize,
     ) -> Ran;
 
-    /// The same, and saves the sheet after the fields to `saved`, which must have 5,958 bytes.
+    /// The same, and saves the sheet after the fields to `saved`, which must have 8,192 bytes.
     pub fn frames_run(
         state: *const u8,
         state_len: usize,

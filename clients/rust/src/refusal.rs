@@ -5,13 +5,13 @@ use std::fmt;
 #[derive(Clone, Copy, Debug, PartialEq, Eq, Hash)]
 #[repr(u8)]
 pub enum Refusal {
-    /// The tag is not one of the seven.
+    /// There is no such tag.
     UnknownTag = 1,
     /// The length of the body is not the tag's.
     WrongLength = 2,
     /// The header or the body goes past the end, or the length is above 60,000.
     Cut = 3,
-    /// A method, live option or zone that there is not.
+    /// A method, live option, zone or ice switch that there is not.
     SettingsOutside = 4,
     /// A case above 31.
     CaseOutside = 5,
@@ -71,10 +71,10 @@ impl Refusal {
             Refusal::UnknownTag => "unknown tag",
             Refusal::WrongLength => "the length is not the tag's",
             Refusal::Cut => "the field is cut short or too long",
-            Refusal::SettingsOutside => "no such method, live option or zone",
+            Refusal::SettingsOutside => "no such method, live option, zone or ice switch",
             Refusal::CaseOutside => "the case is not 0 to 31",
             Refusal::StationOutside => "the station is not 0 to 15",
-            Refusal::KindOutside => "the kind is not 1 to 11",
+            Refusal::KindOutside => "the kind is not 1 to 13",
             Refusal::ComponentOutside => "the component is not 0 to 2",
             Refusal::EffectOutside => "an effect is not -10,000 to 10,000",
             Refusal::CapacityOutside => "a capacity is not 1 to 10,000",

@@ -26,7 +26,7 @@ impl Row {
         rows
     };
 
-    /// The row of a number: 1 to 12 or 21 to 40.
+    /// The row of a number: 1 to 15 or 21 to 43.
     pub fn from_number(number: u8) -> Option<Row> {
         Row::ALL.into_iter().find(|row| row.0 == number)
     }
@@ -37,13 +37,13 @@ impl Row {
     }
 
     /// The section and the combination of ASCE 7-10. `2.3.3-1 on 2.3.2-4` is combination 4 of 2.3.2 with flood load by item 1 of
-    /// 2.3.3.
+    /// 2.3.3, and `2.3.4-2 on 2.3.2-4` the same combination with ice by item 2 of 2.3.4.
     pub fn name(self) -> &'static str {
         self.line().1
     }
 
     /// The combination in the notation of ASCE 7-10, with F and H. The live option puts 0.5L for L in combinations 3, 4 and 5 of
-    /// 2.3.2. H is the full factor; [`Row::low_term`] is the other one.
+    /// 2.3.2, with flood or ice too. H is the full factor; [`Row::low_term`] is the other one.
     pub fn formula(self, live: LiveOption) -> String {
         let live = match live {
             LiveOption::Full => "L",
@@ -54,7 +54,7 @@ impl Row {
 
     /// The term of an Hp case in the low set, which stands in place of its full factor. Rows 1 and 21 have no H.
     pub fn low_term(self) -> Option<&'static str> {
-        let term = if self.0 <= 12 { "0.9Hp" } else { "0.6Hp" };
+        let term = if self.0 <= 15 { "0.9Hp" } else { "0.6Hp" };
         self.line().2.ends_with('H').then_some(term)
     }
 
@@ -68,7 +68,7 @@ impl Row {
 type Line = (u8, &'static str, &'static str);
 
 #[rustfmt::skip]
-const LINES: [Line; 32] = [
+const LINES: [Line; 38] = [
     (1, "2.3.2-1", "1.4D + 1.4F"),
     (2, "2.3.2-2", "1.2D + 1.2F + 1.6L + 0.5(Lr or S or R) + 1.6H"),
     (3, "2.3.2-3 with L", "1.2D + 1.2F + 1.6(Lr or S or R) + fL + 1.6H"),
@@ -81,6 +81,9 @@ const LINES: [Line; 32] = [
     (10, "2.3.3-1 on 2.3.2-6", "0.9D + 1.0W + 2.0Fa + 1.6H"),
     (11, "2.3.3-2 on 2.3.2-4", "1.2D + 1.2F + 0.5W + 1.0Fa + fL + 0.5(Lr or S or R) + 1.6H"),
     (12, "2.3.3-2 on 2.3.2-6", "0.9D + 0.5W + 1.0Fa + 1.6H"),
+    (13, "2.3.4-1 on 2.3.2-2", "1.2D + 1.2F + 1.6L + 0.2Di + 0.5S + 1.6H"),
+    (14, "2.3.4-2 on 2.3.2-4", "1.2D + 1.2F + Di + Wi + fL + 0.5S + 1.6H"),
+    (15, "2.3.4-3 on 2.3.2-6", "0.9D + Di + Wi + 1.6H"),
     (21, "2.4.1-1", "D + F"),
     (22, "2.4.1-2", "D + F + L + H"),
     (23, "2.4.1-3", "D + F + (Lr or S or R) + H"),
@@ -101,4 +104,7 @@ const LINES: [Line; 32] = [
     (38, "2.4.2-2 on 2.4.1-6a", "D + F + 0.75L + 0.75(0.6W) + 0.75(Lr or S or R) + 0.75Fa + H"),
     (39, "2.4.2-2 on 2.4.1-6b", "D + F + 0.75L + 0.75S + 0.75Fa + H"),
     (40, "2.4.2-2 on 2.4.1-7", "0.6D + 0.6W + 0.75Fa + H"),
+    (41, "2.4.3-1 on 2.4.1-2", "D + F + L + 0.7Di + H"),
+    (42, "2.4.3-2 on 2.4.1-3", "D + F + 0.7Di + 0.7Wi + S + H"),
+    (43, "2.4.3-3 on 2.4.1-7", "0.6D + 0.7Di + 0.7Wi + H"),
 ];

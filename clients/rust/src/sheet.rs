@@ -41,12 +41,12 @@ impl Sheet {
         Ok(sheet)
     }
 
-    /// The sheet as bytes, at most 5,958. Equal sheets have equal bytes.
+    /// The sheet as bytes, at most 5,962. Equal sheets have equal bytes.
     pub fn save(&self) -> &[u8] {
         &self.saved[..self.len]
     }
 
-    /// The fields that make the sheet: its settings, each case with its effects other than 0, and the capacities.
+    /// The fields that make the sheet: its settings, ice where it is on, each case with its effects other than 0, and the capacities.
     pub fn fields(&self) -> impl Iterator<Item = Field> + '_ {
         let mut rest = self.save();
         std::iter::from_fn(move || {
@@ -65,6 +65,12 @@ impl Sheet {
             Some(Field::Start(settings)) => settings,
             field => panic!("the library saves the settings first, not {field:?}"),
         }
+    }
+
+    /// Whether the combinations with ice are open.
+    pub fn ice(&self) -> bool {
+        self.fields()
+            .any(|field| matches!(field, Field::SetIce { on: true }))
     }
 
     /// The kind of the case in a place. `None` where the place is empty or there is no such place.
@@ -100,6 +106,12 @@ impl Sheet {
             } if t == station => Some(capacities),
             _ => None,
         })
+    }
+
+    /// Opens the combinations with ice, or closes them. A fresh sheet has them closed.
+    pub fn set_ice(&mut self, on: bool) {
+        let set = self.edit(Field::SetIce { on });
+        set.expect("the library has both settings of the switch");
     }
 
     /// Puts a case in an empty place; its effects are 0.
@@ -240,7 +252,8 @@ impl PartialEq for Sheet {
 impl Eq for Sheet {}
 
 impl fmt::Debug for Sheet {
-    /// The settings; by place, the kind of the case and by station its effects other than 0; by station, the capacities.
+    /// The settings; whether ice is on; by place, the kind of the case and by station its effects other than 0; by station, the
+    /// capacities.
     fn fmt(&self, f: &mut fmt::Formatter<'_>) -> fmt::Result {
         let mut cases = BTreeMap::new();
         let mut stations = BTreeMap::new();
@@ -268,6 +281,7 @@ impl fmt::Debug for Sheet {
         }
         f.debug_struct("Sheet")
             .field("settings", &self.settings())
+            .field("ice", &self.ice())
             .field("cases", &cases)
             .field("capacities", &stations)
             .finish()

@@ -11,7 +11,7 @@ mod reference;
 use std::collections::BTreeMap;
 
 use combination::{low_factor, open_rows};
-use frames::bytes::{answer, ANSWER};
+use frames::bytes::{answer, ANSWER, SAVED};
 use frames::{Kind, LiveOption, Method, Refusal, Row, Zone};
 
 const FIELDS: &str = include_str!("../../../docs/FIELDS.md");
@@ -19,7 +19,9 @@ const SCOPE: &str = include_str!("../../../docs/SCOPE.md");
 const HEADER: &str = include_str!("../../c/frames.h");
 
 /// The symbols that a formula has for the kinds, from kind 1 on.
-const SYMBOLS: [&str; 11] = ["D", "F", "H", "H", "L", "Lr", "S", "R", "W", "E", "Fa"];
+const SYMBOLS: [&str; 13] = [
+    "D", "F", "H", "H", "L", "Lr", "S", "R", "W", "E", "Fa", "Di", "Wi",
+];
 
 /// The lines of the first table under a heading that start with a number, as their cells.
 fn table<'a>(document: &'a str, heading: &str) -> Vec<Vec<&'a str>> {
@@ -81,11 +83,14 @@ fn settings() -> impl Iterator<Item = (LiveOption, reference::Sheet)> {
     for method in Method::ALL {
         for live in LiveOption::ALL {
             for zone in Zone::ALL {
-                let mut sheet = reference::Sheet::fresh();
-                sheet.method = *method as u8;
-                sheet.live_option = *live as u8;
-                sheet.zone = *zone as u8;
-                all.push((*live, sheet));
+                for ice in [false, true] {
+                    let mut sheet = reference::Sheet::fresh();
+                    sheet.method = *method as u8;
+                    sheet.live_option = *live as u8;
+                    sheet.zone = *zone as u8;
+                    sheet.ice = ice;
+                    all.push((*live, sheet));
+                }
             }
         }
     }
@@ -141,7 +146,7 @@ fn rows_of_the_fields_document() {
     }
 }
 
-/// The settings with which a row is open: a method alone where no flood zone is needed.
+/// The settings with which a row is open: a method alone, or with a flood zone or ice.
 fn opened_by(row: Row) -> String {
     let opens = |sheet: &reference::Sheet| {
         let rows = open_rows(sheet);
@@ -149,19 +154,19 @@ fn opened_by(row: Row) -> String {
     };
     let opening: Vec<_> = settings().filter(|(_, sheet)| opens(sheet)).collect();
     let (_, first) = &opening[0];
-    assert!(opening
-        .iter()
-        .all(|(_, sheet)| sheet.method == first.method));
-    match first.zone {
-        0 => {
-            assert_eq!(opening.len(), LiveOption::ALL.len() * Zone::ALL.len());
-            format!("method {}", first.method)
+    let all = |same: &dyn Fn(&reference::Sheet) -> bool| opening.iter().all(|(_, s)| same(s));
+    assert!(all(&|sheet| sheet.method == first.method));
+    let every = LiveOption::ALL.len() * Zone::ALL.len() * 2;
+    let (also, share) = match (first.zone, all(&|sheet| sheet.ice)) {
+        (0, false) => (String::new(), 1),
+        (0, true) => (", ice".into(), 2),
+        (zone, _) => {
+            assert!(all(&|sheet| sheet.zone == zone));
+            (format!(", zone {zone}"), Zone::ALL.len())
         }
-        zone => {
-            assert!(opening.iter().all(|(_, sheet)| sheet.zone == zone));
-            format!("method {}, zone {zone}", first.method)
-        }
-    }
+    };
+    assert_eq!(opening.len(), every / share);
+    format!("method {}{also}", first.method)
 }
 
 #[test]
@@ -209,7 +214,7 @@ fn scope_factors(cells: &[&str], live: LiveOption) -> BTreeMap<&'static str, i64
 }
 
 #[test]
-fn flood_rows_of_the_scope_document() {
+fn flood_and_ice_rows_of_the_scope_document() {
     let mut seen = Vec::new();
     for cells in table(SCOPE, "\n### 3.4 ") {
         let [rows, item, plain_rows, changes] = cells[..] else {
@@ -231,7 +236,7 @@ fn flood_rows_of_the_scope_document() {
             seen.push(row);
         }
     }
-    assert_eq!(seen, rows_of("9 to 12, 31 to 40"));
+    assert_eq!(seen, rows_of("9 to 15, 31 to 43"));
 }
 
 #[test]
@@ -242,9 +247,59 @@ fn open_rows_of_the_scope_document() {
         let mut sheet = reference::Sheet::fresh();
         sheet.method = cells[0].parse().unwrap();
         sheet.zone = cells[1].parse().unwrap();
-        let open: Vec<_> = open_rows(&sheet).iter().map(|row| row.number).collect();
-        let documented: Vec<_> = rows_of(cells[2]).iter().map(|row| row.number()).collect();
-        assert_eq!(documented, open);
+        let mut documented = rows_of(cells[2]);
+        assert_eq!(documented, rows_open(&sheet));
+        sheet.ice = true;
+        documented.extend(rows_of(cells[3]));
+        assert_eq!(documented, rows_open(&sheet));
+    }
+}
+
+fn rows_open(sheet: &reference::Sheet) -> Vec<Row> {
+    let numbers = open_rows(sheet).into_iter().map(|row| row.number);
+    numbers.map(|n| Row::from_number(n).unwrap()).collect()
+}
+
+/// Every place with effects at every station, capacities at every station, and ice.
+#[test]
+fn greatest_size_of_a_saved_sheet() {
+    let mut sheet = reference::Sheet::fresh();
+    sheet.ice = true;
+    let case = reference::Case {
+        kind: Kind::Live as u8,
+        effects: [[0, 0, 1]; reference::STATIONS],
+    };
+    sheet.places = [Some(case); reference::PLACES];
+    sheet.capacities = [Some([1; 3]); reference::STATIONS];
+    let greatest = reference::save(&sheet).len();
+    assert!(greatest <= SAVED);
+    let stated = format!("at most {},{:03} bytes", greatest / 1000, greatest % 1000);
+    assert!(
+        FIELDS.contains(&stated) && SCOPE.contains(&stated),
+        "{stated}"
+    );
+}
+
+/// What a call asks for to save into is the same in this crate, in the C header and in the document.
+#[test]
+fn room_to_save_into() {
+    assert_eq!(SAVED, reference::SAVED_ROOM);
+    assert!(HEADER.contains(&format!("#define FRAMES_SAVED {SAVED}\n")));
+    assert!(HEADER.contains(&format!("#define FRAMES_ANSWER {ANSWER}\n")));
+    let stated = format!("{},{:03} bytes to save into", SAVED / 1000, SAVED % 1000);
+    assert!(FIELDS.contains(&stated), "{stated}");
+}
+
+/// The kinds and their symbols in both documents.
+#[test]
+fn kinds_of_the_documents() {
+    let kinds = table(SCOPE, "\n### 2.3 ");
+    assert_eq!(kinds.len(), Kind::ALL.len());
+    let (_, listed) = FIELDS.split_once("\nKinds: ").unwrap();
+    for (kind, cells) in Kind::ALL.iter().zip(kinds) {
+        assert_eq!(cells[0].parse(), Ok(*kind as u8));
+        let entry = format!("{} {}", cells[0], cells[1]);
+        assert!(listed.contains(&entry), "{entry}");
     }
 }
 

@@ -126,6 +126,58 @@ fn p10_one_of_snow_and_rain() {
     assert_eq!(maximum(Settings::default(), &cases), 160_000);
 }
 
+/// The settings with ice, and cases on N at station 0.
+fn iced(method: Method, cases: &[(Kind, i16)]) -> Extremes {
+    let settings = Settings {
+        method,
+        ..Settings::default()
+    };
+    let mut sheet = sheet(settings, cases);
+    sheet.set_ice(true);
+    sheet.extremes(0, Component::N).unwrap()
+}
+
+#[test]
+fn ice_rows_govern() {
+    let glaze = [(Kind::Dead, 100), (Kind::Ice, 100), (Kind::WindOnIce, 50)];
+    let uplift = [(Kind::Dead, 100), (Kind::WindOnIce, -300)];
+    let x = iced(Method::Strength, &glaze).maximum;
+    assert_eq!((x.value, x.row.number(), x.acting), (270_000, 14, 0b111));
+    let x = iced(Method::Strength, &uplift).minimum;
+    assert_eq!((x.value, x.row.number(), x.acting), (-210_000, 15, 0b11));
+    let x = iced(Method::Allowable, &glaze).maximum;
+    assert_eq!((x.value, x.row.number(), x.acting), (205_000, 42, 0b111));
+    let x = iced(Method::Allowable, &uplift).minimum;
+    assert_eq!((x.value, x.row.number(), x.acting), (-150_000, 43, 0b11));
+    assert_eq!(maximum(Settings::default(), &glaze), 140_000);
+}
+
+#[test]
+fn snow_for_the_roof_load_with_ice() {
+    let cases = [(Kind::RoofLive, 100), (Kind::Snow, 40), (Kind::Ice, 200)];
+    let x = iced(Method::Strength, &cases).maximum;
+    assert_eq!((x.value, x.row.number(), x.acting), (220_000, 14, 0b110));
+}
+
+#[test]
+fn ice_is_switched_and_saved() {
+    let mut s = sheet(Settings::default(), &[(Kind::Ice, 7)]);
+    assert!(!s.ice());
+    let without = s.clone();
+    s.set_ice(true);
+    assert!(s.ice());
+    assert_ne!(s, without);
+    assert_eq!(s.save()[..10], [1, 0, 3, 1, 0, 0, 8, 0, 1, 1]);
+    assert_eq!(s.save()[10..], without.save()[6..]);
+    assert_eq!(Sheet::load(s.save()).unwrap(), s);
+    assert!(format!("{s:?}").contains("ice: true"));
+    let mut fresh = s.clone();
+    fresh.run(&[Field::Start(Settings::default())]);
+    assert_eq!(fresh, Sheet::default());
+    s.set_ice(false);
+    assert_eq!(s, without);
+}
+
 #[test]
 fn two_winds_do_not_act_together() {
     let mut sheet = sheet(Settings::default(), &[(Kind::Wind, 100), (Kind::Wind, 0)]);
@@ -189,7 +241,8 @@ fn refusals_of_loading() {
     assert_eq!(refused(&[1, 0, 3, 3, 0, 0]), Refusal::SettingsOutside);
     assert_eq!(refused(&[4, 0, 1, 32]), Refusal::CaseOutside);
     assert_eq!(refused(&[7, 0, 1, 16]), Refusal::StationOutside);
-    assert_eq!(refused(&[2, 0, 2, 0, 12]), Refusal::KindOutside);
+    assert_eq!(refused(&[2, 0, 2, 0, 14]), Refusal::KindOutside);
+    assert_eq!(refused(&[8, 0, 1, 2]), Refusal::SettingsOutside);
     assert_eq!(refused(&[6, 0, 2, 0, 3]), Refusal::ComponentOutside);
     let effects = [3, 0, 8, 0, 0, 0x27, 0x11, 0, 0, 0, 0];
     assert_eq!(refused(&effects), Refusal::EffectOutside);
@@ -300,7 +353,7 @@ fn shown_for_debugging() {
     s.set_capacities(4, capacities).unwrap();
     assert_eq!(
         format!("{s:?}"),
-        "Sheet { settings: Settings { method: Strength, live: Full, zone: NoFlood }, \
+        "Sheet { settings: Settings { method: Strength, live: Full, zone: NoFlood }, ice: false, \
          cases: {0: (Dead, {0: Effects { n: 7, my: 0, mz: 0 }})}, \
          capacities: {4: Capacities { n: 3, my: 2, mz: 1 }} }"
     );
@@ -317,9 +370,11 @@ fn fields_decoded() {
         bytes.push(9);
         assert_eq!(Field::decode(&bytes), Some((field, &[9][..])));
     }
-    assert_eq!(Field::decode(&[2, 0, 2, 0, 12]), None);
+    assert_eq!(Field::decode(&[2, 0, 2, 0, 14]), None);
     assert_eq!(Field::decode(&[4, 0, 2, 0, 0]), None);
     assert_eq!(Field::decode(&[8, 0, 0]), None);
+    assert_eq!(Field::decode(&[8, 0, 1, 2]), None);
+    assert_eq!(Field::decode(&[9, 0, 0]), None);
 }
 
 /// A field of each tag, with every setting, kind and component.
@@ -350,6 +405,7 @@ fn every_field() -> Vec<Field> {
     ];
     fields.extend(Kind::ALL.iter().map(|&kind| Field::AddCase { case, kind }));
     fields.extend((Component::ALL.iter()).map(|&component| Field::Extremes { station, component }));
+    fields.extend([false, true].map(|on| Field::SetIce { on }));
     fields.extend(every_start());
     fields
 }
@@ -404,9 +460,10 @@ fn a_full_sheet_has_the_greatest_size() {
         station,
         capacities,
     }));
+    fields.push(Field::SetIce { on: true });
     let mut s = Sheet::default();
     assert!(s.run(&fields).iter().all(|a| *a == Answer::Accepted));
-    assert_eq!(s.save().len(), SAVED);
+    assert_eq!(s.save().len(), 5962);
     assert_eq!(Sheet::load(s.save()).unwrap(), s);
     let least = s.extremes(7, Component::N).unwrap().minimum;
     assert_eq!((least.value, least.acting), (-51_200, u32::MAX));
@@ -419,8 +476,10 @@ fn answers_that_are_not_whole() {
     assert_eq!(Answer::decode(&[0x81, 0, 1]), None);
     assert_eq!(Answer::decode(&[0x81, 0, 1, 15]), None);
     assert_eq!(Answer::decode(&[0x82, 0, 0]), None);
-    assert_eq!(Answer::decode(&answer_in_row(13)), None);
-    assert!(Answer::decode(&answer_in_row(12)).is_some());
+    for (row, follows) in [(15, 16), (43, 44)] {
+        assert!(Answer::decode(&answer_in_row(row)).is_some());
+        assert_eq!(Answer::decode(&answer_in_row(follows)), None);
+    }
     let (answer, rest) = Answer::decode(&[0x80, 0, 0, 7]).unwrap();
     assert_eq!((answer, rest), (Answer::Accepted, &[7][..]));
 }

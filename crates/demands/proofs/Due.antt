@@ -20,7 +20,7 @@ use Rattle.headers.specs.Headers.{headerOf}
 use Rattle.answers.specs.Answers.{answerRoom, answerBytes}
 use Rattle.fields.specs.Field.{readField}
 use Rattle.fields.proofs.InOrder.{by-header}
-use Rattle.tags.specs.Tags.{Tag, tags, utilisationTag, tagAt, unknownTag}
+use Rattle.tags.specs.Tags.{Tag, tags, switchTag, tagAt, unknownTag}
 use Rattle.fields.specs.Field.{tagOf, bodyOf, isCut, lengthIn, due}
 
 -- ---- the numbers of a list of refusals pass a test
@@ -38,22 +38,23 @@ first-passes p (r ∷ rs) z a =
     by false x y = y
 
 -- what holds of each tag of the table holds of the tag of a field
-by-tags : (P : Tag → Type 0) → P (getD tags 0 utilisationTag) → P (getD tags 1 utilisationTag) → P (getD tags 2 utilisationTag) → P (getD tags 3 utilisationTag) →
-    P (getD tags 4 utilisationTag) → P (getD tags 5 utilisationTag) → P utilisationTag → (tag : ℕ) → P (tagAt tag)
-by-tags P p1 p2 p3 p4 p5 p6 p7 tag = at (tag - 1)
+by-tags : (P : Tag → Type 0) → P (getD tags 0 switchTag) → P (getD tags 1 switchTag) → P (getD tags 2 switchTag) → P (getD tags 3 switchTag) →
+    P (getD tags 4 switchTag) → P (getD tags 5 switchTag) → P (getD tags 6 switchTag) → P switchTag → (tag : ℕ) → P (tagAt tag)
+by-tags P p1 p2 p3 p4 p5 p6 p7 p8 tag = at (tag - 1)
   where
-    seventh : (k : ℕ) → P (getD (utilisationTag ∷ []) k utilisationTag)
-    seventh zero = p7
-    seventh (suc k) = p7
+    eighth : (k : ℕ) → P (getD (switchTag ∷ []) k switchTag)
+    eighth zero = p8
+    eighth (suc k) = p8
 
-    at : (k : ℕ) → P (getD tags k utilisationTag)
+    at : (k : ℕ) → P (getD tags k switchTag)
     at zero = p1
     at (suc zero) = p2
     at (suc (suc zero)) = p3
     at (suc (suc (suc zero))) = p4
     at (suc (suc (suc (suc zero)))) = p5
     at (suc (suc (suc (suc (suc zero))))) = p6
-    at (suc (suc (suc (suc (suc (suc k)))))) = seventh k
+    at (suc (suc (suc (suc (suc (suc zero)))))) = p7
+    at (suc (suc (suc (suc (suc (suc (suc k))))))) = eighth k
 
 -- a number of a tag's own refusals: 4 to 13
 own : ℕ → Bool
@@ -62,7 +63,7 @@ own n = eqb n 0 || (leb 4 n && leb n 13)
 module _ (s : Sheet) (b : List ℕ) where
   numbers-own : (tag : ℕ) → T (allNumbers own (tagAt tag .refusals s b))
   unfolding own
-  numbers-own = by-tags (λ t. T (allNumbers own (t .refusals s b))) tt tt tt tt tt tt tt
+  numbers-own = by-tags (λ t. T (allNumbers own (t .refusals s b))) tt tt tt tt tt tt tt tt
 
   tag-due-own : (tag : ℕ) → T (own (firstDue (tagAt tag .refusals s b)))
   unfolding own
@@ -70,7 +71,7 @@ module _ (s : Sheet) (b : List ℕ) where
 
   -- no tag answers with a refusal
   no-refusal : (tag n : ℕ) → tagAt tag .answer s b ≡ answer.Refused n → ⊥
-  no-refusal tag n = by-tags (λ t. t .answer s b ≡ answer.Refused n → ⊥) edit edit edit edit edit look-extremes look-utilisation tag
+  no-refusal tag n = by-tags (λ t. t .answer s b ≡ answer.Refused n → ⊥) edit edit edit edit edit look-extremes look-utilisation edit tag
     where
       edit : answer.Accepted ≡ answer.Refused n → ⊥
       edit e = let z : _≡_ {A = ℕ} 0 1 = cc in omega arith

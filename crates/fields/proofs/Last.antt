@@ -12,7 +12,7 @@ use Rattle.sheet.specs.declared.Sheet.{Sheet}
 use Rattle.sheet.specs.declared.Answer.{Answer}
 use Rattle.sheet.specs.declared.Answer.the-variants.{Accepted}
 use Rattle.sheet.specs.declared.Answered.{Answered}
-use Rattle.refusals.specs.Refusals.{effectOutside, capacityOutside, kindOutside, methodOutside, dueSettings, dueFillAt, dueEffectsAt, dueEmptyAt, dueCapacities, dueExtremes, dueUtilisationAt}
+use Rattle.refusals.specs.Refusals.{effectOutside, capacityOutside, kindOutside, methodOutside, dueSettings, dueSwitch, dueFillAt, dueEffectsAt, dueEmptyAt, dueCapacities, dueExtremes, dueUtilisationAt}
 use Rattle.sheet.specs.Edits.{unlessRefused}
 use Rattle.sheet.specs.Looks.{unlessDue, lookedExtremes, lookedUtilisation, edited}
 use Rattle.headers.specs.declared.Header.{Header}
@@ -44,7 +44,11 @@ number n e = record { differs = e }
 header-not3 : (tag len : ℕ) → Not3 (dueHeader tag len)
 unfolding dueHeader
 header-not3 tag len =
-    both Not3 (eqb tag 0) (number 1 refl) (both Not3 (ltb 7 tag) (number 1 refl) (both Not3 (eqb len (lengthOf tag)) none (number 2 refl)))
+    both Not3 (eqb tag 0) (number 1 refl) (both Not3 (ltb 8 tag) (number 1 refl) (both Not3 (eqb len (lengthOf tag)) none (number 2 refl)))
+
+switch-not3 : (byte : ℕ) → Not3 (dueSwitch byte)
+unfolding dueSwitch
+switch-not3 byte = both Not3 (ltb 1 byte) (number 4 refl) none
 
 settings-not3 : (method live zone : ℕ) → Not3 (dueSettings method live zone)
 unfolding dueSettings
@@ -96,7 +100,7 @@ unfolding lookedExtremes lookedUtilisation
 run-not-last s tag b =
     run-by NotLastAnswer s tag b (edit-not-last _ s _ (settings-not3 _ _ _)) (edit-not-last _ s _ (fill-not3 _ _ _))
     (edit-not-last _ s _ (effects-not3 _ _ _ _ _ _)) (edit-not-last _ s _ (empty-not3 _ _)) (edit-not-last _ s _ (capacities-not3 _ _ _ _))
-    (due-not-last _ _ (extremes-not3 _ _) refl) (due-not-last _ _ (utilisation-not3 _ _) refl)
+    (due-not-last _ _ (extremes-not3 _ _) refl) (due-not-last _ _ (utilisation-not3 _ _) refl) (edit-not-last _ s _ (switch-not3 _))
 
 field-not-last : (s : Sheet) (tag : ℕ) (b : List ℕ) → NotLastAnswer (fieldOf s tag b)
 unfolding fieldOf

@@ -22,7 +22,7 @@ use Rattle.loading.specs.declared.Progress.{Progress}
 use Rattle.lists.specs.Lists.{fieldsOf, short, sheetAfter, answersTo, bytesOf}
 use Rattle.lists.proofs.Joins.{answers-long}
 use Rattle.loading.specs.Loaded.{loaded, dueState}
-use Rattle.frames_c.specs.Calls.{dueAnswer, dueRun, AnswerDone, RunDone, countOf}
+use Rattle.frames_c.specs.Calls.{placeRoom, dueAnswer, dueRun, AnswerDone, RunDone, countOf}
 use Rattle.loading.specs.Loop.{State, starting, steppedAll, stateOf, Room}
 use Rattle.loading.proofs.Loop.{sheet-after, written-after, output-after}
 use Rattle.answers.specs.Answers.{answerRoom}
@@ -77,13 +77,13 @@ module _ (state input o : List ℕ) where
     abbrev due : ℕ
     due = dueRun state input (length o) (length place)
 
-    pub run-due-is : {n m rest : ℕ} {t : Bool} → n ≡ cond (ltb (length place) savedMost) 14 m → m ≡ cond t 14 rest → t ≡ short input (length o) → rest ≡ dueState state → n ≡ due
-    run-due-is e d t r = e ∙ ap (λ (k : ℕ). cond (ltb (length place) savedMost) 14 k) (answer-due state input (length o) d t r)
+    pub run-due-is : {n m rest : ℕ} {t : Bool} → n ≡ cond (ltb (length place) placeRoom) 14 m → m ≡ cond t 14 rest → t ≡ short input (length o) → rest ≡ dueState state → n ≡ due
+    run-due-is e d t r = e ∙ ap (λ (k : ℕ). cond (ltb (length place) placeRoom) 14 k) (answer-due state input (length o) d t r)
 
     pub run-due : due ≡ 0 → (savedMost ≤ length place) × (dueAnswer state input (length o) ≡ 0)
     run-due e =
-        let x = none-due (ltb (length place) savedMost) (dueAnswer state input (length o)) e in
-        (ltb-false (length place) savedMost (x .0), x .1)
+        let x = none-due (ltb (length place) placeRoom) (dueAnswer state input (length o)) e in
+        (omega (arith, ltb-false (length place) placeRoom (x .0)), x .1)
 
     pub run-refused : {n : ℕ} → n ≡ due → (n ≡ 0 → ⊥) → RunDone state input o place (record { refusal = n; written = 0; saved = 0 }) o place
     run-refused {n} d h = record { result = rw (← d, ne-eqb n 0 h); written = rw (← d, ne-eqb n 0 h); saved = rw (← d, ne-eqb n 0 h) }

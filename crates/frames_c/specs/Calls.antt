@@ -7,7 +7,7 @@ use lib.ListN.{length}
 use lib.Dec.{ltb, eqb}
 use Rattle.wire.specs.Bytes.{over}
 use Rattle.lists.specs.Lists.{fieldsOf, short, sheetAfter, answersTo, bytesOf}
-use Rattle.saved_fields.specs.Saved.{savedBytes, savedMost}
+use Rattle.saved_fields.specs.Saved.{savedBytes}
 use Rattle.saving.specs.declared.Saved.{Saved}
 use Rattle.saving.specs.declared.Saved.the-variants.{Written, Refused}
 use Rattle.loading.specs.Loaded.{loaded, dueState}
@@ -17,9 +17,13 @@ use Rattle.frames_c.specs.declared.Ran.{Ran}
 abbrev pub dueAnswer : List ℕ → List ℕ → ℕ → ℕ
 dueAnswer state input room = cond (short input room) 14 (dueState state)
 
--- and for a place to save of under 5,958 bytes, the greatest saved size (SCOPE 8.3)
+-- the place to save into that a call asks for, above the greatest saved size (SCOPE 8.3)
+abbrev pub placeRoom : ℕ
+placeRoom = 8192
+
+-- and for a smaller place
 abbrev pub dueRun : List ℕ → List ℕ → ℕ → ℕ → ℕ
-dueRun state input room place = cond (ltb place savedMost) 14 (dueAnswer state input room)
+dueRun state input room place = cond (ltb place placeRoom) 14 (dueAnswer state input room)
 
 -- the answers to a list, and the saved sheet after it (SCOPE 8.1, 9.1)
 abbrev pub answered : List ℕ → List ℕ → List ℕ

@@ -6,6 +6,9 @@ ghost use lib.ListN.{length};
 ghost use Rattle.lists.specs.Lists.{fieldsOf};
 ghost use Rattle.frames_c.specs.Calls.{AnswerDone, RunDone, countOf};
 
+// The bytes to save into that a run asks for, more than a saved sheet has.
+pub const PLACE_ROOM: usize = 8192;
+
 // The refusal's number, or 0, and how many bytes were written and saved.
 #[repr(C)]
 pub struct Ran {
@@ -65,7 +68,7 @@ pub extern "C" fn frames_run(state: &[u8], input: &[u8], output: &mut [u8], save
     let p = loading::load(&mut effects, state);
     let short = lists::is_short(input, output.len());
     let due = refusals::first(short, 14, p.refusal);
-    let due = refusals::first(saved.len() < saving::SAVED_MOST, 14, due);
+    let due = refusals::first(saved.len() < PLACE_ROOM, 14, due);
     if due == 0 {
         let rest = p.rest;
         let q = loading::read_all(rest, true, &mut effects, input, output);

@@ -1,6 +1,6 @@
 ghost use mathlib.Core.Path.{_≡_};
 ghost use Prim.Native.Nat.{ℕ, _<_};
-ghost use Rattle.standard.specs.Rows.{rowCount, rowsTo, byZone};
+ghost use Rattle.standard.specs.Rows.{rowCount, rowsTo, byZone, byIce};
 ghost use Rattle.standard.specs.Columns.{rowTable};
 ghost use Rattle.envelope.specs.Envelope.{bestAt, betterBy, bestFrom, bestAmong, bestOf, higherBy, peakOf};
 ghost use Rattle.sums.specs.Sums.{SumsInRange};
@@ -110,6 +110,32 @@ fn allowable_flooded(b: Best, table: &RowTable, s: Settings, t: Terms) -> Best
     b
 }
 
+// The same with the ice rows of method 1.
+fn strength_iced(b: Best, table: &RowTable, s: Settings, t: Terms) -> Best
+    requires { ⌜ (now table ≡ rowTable) × TermsInRange t ⌝ }
+    ensures { λ r. ⌜ r ≡ bestAmong (λ row. valueOf s row t) b (byIce s (rowsTo 13 15)) ⌝ }
+{
+    if s.ice == 1 {
+        let b13 = with_row(b, table, s, 13, t);
+        let b14 = with_row(b13, table, s, 14, t);
+        return with_row(b14, table, s, 15, t);
+    }
+    b
+}
+
+// The same with the ice rows of method 2.
+fn allowable_iced(b: Best, table: &RowTable, s: Settings, t: Terms) -> Best
+    requires { ⌜ (now table ≡ rowTable) × TermsInRange t ⌝ }
+    ensures { λ r. ⌜ r ≡ bestAmong (λ row. valueOf s row t) b (byIce s (rowsTo 41 43)) ⌝ }
+{
+    if s.ice == 1 {
+        let b41 = with_row(b, table, s, 41, t);
+        let b42 = with_row(b41, table, s, 42, t);
+        return with_row(b42, table, s, 43, t);
+    }
+    b
+}
+
 // The row that governs.
 fn governing(s: Settings, t: Terms) -> Best
     requires { ⌜ TermsInRange t ⌝ }
@@ -118,11 +144,13 @@ fn governing(s: Settings, t: Terms) -> Best
     let table = rows::row_table();
     if s.method == 1 {
         let b = strength(&table, s, t);
-        return strength_flooded(b, &table, s, t);
+        let flooded = strength_flooded(b, &table, s, t);
+        return strength_iced(flooded, &table, s, t);
     }
     if s.method == 2 {
         let b = allowable(&table, s, t);
-        return allowable_flooded(b, &table, s, t);
+        let flooded = allowable_flooded(b, &table, s, t);
+        return allowable_iced(flooded, &table, s, t);
     }
     first_row(&table, s, 0, t)
 }

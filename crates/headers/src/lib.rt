@@ -40,6 +40,7 @@ fn right_length(tag: u8) -> usize
         5 => 7,
         6 => 2,
         7 => 1,
+        8 => 1,
         _ => 0,
     }
 }
@@ -49,7 +50,7 @@ pub fn due_header(tag: u8, len: usize) -> u8
     ensures { λ r. ⌜ r ≡ dueHeader tag len ⌝ }
 {
     let d = refusals::first(len == right_length(tag), 0, 2);
-    let d = refusals::first(7 < tag, 1, d);
+    let d = refusals::first(8 < tag, 1, d);
     refusals::first(tag == 0, 1, d)
 }
 

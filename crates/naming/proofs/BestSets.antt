@@ -60,14 +60,16 @@ record Runs : Type 0 where
   wind : tabulate (λ j. eqb (groupOf j) 1) 0 kindCount ≡ tabulate (inRun 9 1) 0 kindCount
   quake : tabulate (λ j. eqb (groupOf j) 2) 0 kindCount ≡ tabulate (inRun 10 1) 0 kindCount
   flood : tabulate (λ j. eqb (groupOf j) 3) 0 kindCount ≡ tabulate (inRun 11 1) 0 kindCount
+  ice : tabulate (λ j. eqb (groupOf j) 4) 0 kindCount ≡ tabulate (inRun 12 1) 0 kindCount
+  icewind : tabulate (λ j. eqb (groupOf j) 5) 0 kindCount ≡ tabulate (inRun 13 1) 0 kindCount
 
 runs : Runs
 unfolding classOf groupOf
-runs = record { always = refl; earth = refl; free = refl; roof = refl; wind = refl; quake = refl; flood = refl }
+runs = record { always = refl; earth = refl; free = refl; roof = refl; wind = refl; quake = refl; flood = refl; ice = refl; icewind = refl }
 
-four : (g : ℕ → ℕ) → sum groupCount g ≡ g 0 + g 1 + g 2 + g 3
+six : (g : ℕ → ℕ) → sum groupCount g ≡ g 0 + g 1 + g 2 + g 3 + g 4 + g 5
 unfolding sum
-four g = omega arith
+six g = omega arith
 
 and-exchanged : (a b c : Bool) → (a && b) && c ≡ b && (a && c)
 and-exchanged true true c = refl
@@ -106,6 +108,8 @@ module _ (places : List ℕ) (kind : ℕ → ℕ) (held : Places places kind) wh
         wind = gathered-below (kindsIn row) 9 1 (omega arith) (omega arith);
         quake = gathered-below (kindsIn row) 10 1 (omega arith) (omega arith);
         flood = gathered-below (kindsIn row) 11 1 (omega arith) (omega arith);
+        ice = gathered-below (kindsIn row) 12 1 (omega arith) (omega arith);
+        icewind = gathered-below (kindsIn row) 13 1 (omega arith) (omega arith);
       }
 
   pub places-in-range : PlacesInRange places
@@ -160,13 +164,15 @@ module _ (places : List ℕ) (kind : ℕ → ℕ) (held : Places places kind) wh
           omega (
             arith,
             acting-is s row kind x,
-            four (λ g. leadBit caseCount (worthOf s row kind x g)),
+            six (λ g. leadBit caseCount (worthOf s row kind x g)),
             run-passing (λ j. isAlways (classOf j)) 1 3 (omega arith) (omega arith) (runs .always),
             members-passing (λ j. isSubset (classOf j)) 4 2 (omega arith) (omega arith) (runs .free) (λ k. ltb 0 (up (x k))),
             lead-is 0 6 3 (omega arith) (omega arith) (omega arith) (runs .roof),
             lead-is 1 9 1 (omega arith) (omega arith) (omega arith) (runs .wind),
             lead-is 2 10 1 (omega arith) (omega arith) (omega arith) (runs .quake),
             lead-is 3 11 1 (omega arith) (omega arith) (omega arith) (runs .flood),
+            lead-is 4 12 1 (omega arith) (omega arith) (omega arith) (runs .ice),
+            lead-is 5 13 1 (omega arith) (omega arith) (omega arith) (runs .icewind),
           )
 
       pub named-low : namedOf (chosenOf row places) x .low ≡ maskOf caseCount (lowIn s row kind x)

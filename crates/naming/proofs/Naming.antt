@@ -20,7 +20,7 @@ use Rattle.envelope.specs.Places.{PlacesInRange}
 use Rattle.naming.specs.declared.Marked.{Marked}
 use Rattle.naming.specs.declared.Chosen.{Chosen}
 use Rattle.naming.specs.declared.Sets.{Sets}
-use Rattle.naming.specs.Sets.{leadBit, markedIn, gatheredOf, ChosenInRange, namedBy, MarkedSix, namedOf}
+use Rattle.naming.specs.Sets.{leadBit, markedIn, gatheredOf, ChosenInRange, namedBy, MarkedSets, namedOf}
 
 -- ---- the cases of a run of kinds
 -- there is room for each kind's cases
@@ -55,12 +55,13 @@ module _ (d : Chosen) (range : ChosenInRange d) (c : Chosen) (is : c ≡ d) wher
   pub chosen-small : ChosenInRange c
   chosen-small = subst ChosenInRange (sym is) range
 
-  module _ (x : ℕ → ℤ) (earth free roof wind quake flood : Marked)
+  module _ (x : ℕ → ℤ) (earth free roof wind quake flood ice icewind : Marked)
       (is-earth : earth ≡ markedIn (has (c .earth)) x caseCount) (is-free : free ≡ markedIn (has (c .free)) x caseCount)
       (is-roof : roof ≡ markedIn (has (c .roof)) x caseCount) (is-wind : wind ≡ markedIn (has (c .wind)) x caseCount)
-      (is-quake : quake ≡ markedIn (has (c .quake)) x caseCount) (is-flood : flood ≡ markedIn (has (c .flood)) x caseCount) where
-    pub six-small : MarkedSix (c .always) earth free roof wind quake flood
-    six-small =
+      (is-quake : quake ≡ markedIn (has (c .quake)) x caseCount) (is-flood : flood ≡ markedIn (has (c .flood)) x caseCount)
+      (is-ice : ice ≡ markedIn (has (c .ice)) x caseCount) (is-icewind : icewind ≡ markedIn (has (c .icewind)) x caseCount) where
+    pub marked-small : MarkedSets (c .always) earth free roof wind quake flood ice icewind
+    marked-small =
         record {
           always-small = chosen-small .always;
           free-small = above-small (has (c .free)) x free is-free;
@@ -68,10 +69,12 @@ module _ (d : Chosen) (range : ChosenInRange d) (c : Chosen) (is : c ≡ d) wher
           wind-small = lead-small (has (c .wind)) x wind is-wind;
           quake-small = lead-small (has (c .quake)) x quake is-quake;
           flood-small = lead-small (has (c .flood)) x flood is-flood;
+          ice-small = lead-small (has (c .ice)) x ice is-ice;
+          icewind-small = lead-small (has (c .icewind)) x icewind is-icewind;
         }
 
-    pub named-is : (r : Sets) → r ≡ namedBy (c .always) earth free roof wind quake flood → r ≡ namedOf d x
+    pub named-is : (r : Sets) → r ≡ namedBy (c .always) earth free roof wind quake flood ice icewind → r ≡ namedOf d x
     unfolding namedOf
     named-is r e =
-        e ∙ (λ i. namedBy (c .always) (is-earth i) (is-free i) (is-roof i) (is-wind i) (is-quake i) (is-flood i))
+        e ∙ (λ i. namedBy (c .always) (is-earth i) (is-free i) (is-roof i) (is-wind i) (is-quake i) (is-flood i) (is-ice i) (is-icewind i))
         ∙ ap (λ (a : Chosen). namedOf a x) is

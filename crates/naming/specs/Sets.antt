@@ -52,6 +52,8 @@ chosenOf row places =
       wind = gatheredOf places (kindsIn row) 9 1;
       quake = gatheredOf places (kindsIn row) 10 1;
       flood = gatheredOf places (kindsIn row) 11 1;
+      ice = gatheredOf places (kindsIn row) 12 1;
+      icewind = gatheredOf places (kindsIn row) 13 1;
     }
 
 -- each is a set of cases
@@ -63,21 +65,26 @@ pub record ChosenInRange (c : Chosen) : Type 0 where
   pub wind : c .wind < 2 ^ caseCount
   pub quake : c .quake < 2 ^ caseCount
   pub flood : c .flood < 2 ^ caseCount
+  pub ice : c .ice < 2 ^ caseCount
+  pub icewind : c .icewind < 2 ^ caseCount
 
 -- the sets that the cases marked make
-abbrev pub namedBy : (always : ℕ) → (earth free roof wind quake flood : Marked) → Sets
-namedBy always earth free roof wind quake flood =
-    record { acting = always + free .above + (roof .lead + wind .lead + quake .lead + flood .lead); low = earth .below }
+abbrev pub namedBy : (always : ℕ) → (earth free roof wind quake flood ice icewind : Marked) → Sets
+namedBy always earth free roof wind quake flood ice icewind =
+    record { acting = always + free .above + (roof .lead + wind .lead + quake .lead + flood .lead + ice .lead + icewind .lead); low = earth .below }
 
-pub record MarkedSix (always : ℕ) (earth free roof wind quake flood : Marked) : Type 0 where
+pub record MarkedSets (always : ℕ) (earth free roof wind quake flood ice icewind : Marked) : Type 0 where
   pub always-small : always < 2 ^ caseCount
   pub free-small : free .above < 2 ^ caseCount
   pub roof-small : roof .lead < 2 ^ caseCount
   pub wind-small : wind .lead < 2 ^ caseCount
   pub quake-small : quake .lead < 2 ^ caseCount
   pub flood-small : flood .lead < 2 ^ caseCount
+  pub ice-small : ice .lead < 2 ^ caseCount
+  pub icewind-small : icewind .lead < 2 ^ caseCount
 
 unfoldable pub namedOf : Chosen → (ℕ → ℤ) → Sets
 namedOf c x =
     namedBy (c .always) (markedIn (has (c .earth)) x caseCount) (markedIn (has (c .free)) x caseCount) (markedIn (has (c .roof)) x caseCount)
     (markedIn (has (c .wind)) x caseCount) (markedIn (has (c .quake)) x caseCount) (markedIn (has (c .flood)) x caseCount)
+    (markedIn (has (c .ice)) x caseCount) (markedIn (has (c .icewind)) x caseCount)

@@ -10,7 +10,7 @@ ghost use Rattle.envelope.specs.Range.{effectOf, EffectsInRange, WeightsInRange
 ghost use Rattle.envelope.specs.Envelope.{weighed};
 ghost use Rattle.envelope.specs.Directions.{turned};
 ghost use Rattle.envelope.specs.Places.{PlacesInRange};
-ghost use Rattle.naming.specs.Sets.{markedWith, markedIn, gatheredOf, chosenOf, ChosenInRange, namedOf, MarkedSix, namedBy};
+ghost use Rattle.naming.specs.Sets.{markedWith, markedIn, gatheredOf, chosenOf, ChosenInRange, namedOf, MarkedSets, namedBy};
 use envelope::Weights;
 
 // Over the cases of a set: those with an effect above zero, those with one below, the first of those with the greatest
@@ -32,6 +32,8 @@ pub struct Chosen {
     pub wind: u64,
     pub quake: u64,
     pub flood: u64,
+    pub ice: u64,
+    pub icewind: u64,
 }
 
 // The sets of a combination: bit k is case k.
@@ -169,6 +171,8 @@ fn chosen_in(row: usize, places: &[u64]) -> Chosen
         wind: gathered(places, factored, 9, 1),
         quake: gathered(places, factored, 10, 1),
         flood: gathered(places, factored, 11, 1),
+        ice: gathered(places, factored, 12, 1),
+        icewind: gathered(places, factored, 13, 1),
     }
 }
 
@@ -181,11 +185,13 @@ fn named(
     wind: Marked,
     quake: Marked,
     flood: Marked,
+    ice: Marked,
+    icewind: Marked,
 ) -> Sets
-    requires { ⌜ MarkedSix always earth free roof wind quake flood ⌝ }
-    ensures { λ r. ⌜ r ≡ namedBy always earth free roof wind quake flood ⌝ }
+    requires { ⌜ MarkedSets always earth free roof wind quake flood ice icewind ⌝ }
+    ensures { λ r. ⌜ r ≡ namedBy always earth free roof wind quake flood ice icewind ⌝ }
 {
-    let leads = roof.lead + wind.lead + quake.lead + flood.lead;
+    let leads = roof.lead + wind.lead + quake.lead + flood.lead + ice.lead + icewind.lead;
     Sets {
         acting: always + free.above + leads,
         low: earth.below,
@@ -204,7 +210,19 @@ pub fn sets_at(row: usize, places: &[u64], effects: &[i16], component: usize, mi
     let wind = marked_at(c.wind, effects, component, minus);
     let quake = marked_at(c.quake, effects, component, minus);
     let flood = marked_at(c.flood, effects, component, minus);
-    named(c.always, earth, free, roof, wind, quake, flood)
+    let ice = marked_at(c.ice, effects, component, minus);
+    let icewind = marked_at(c.icewind, effects, component, minus);
+    named(
+        c.always,
+        earth,
+        free,
+        roof,
+        wind,
+        quake,
+        flood,
+        ice,
+        icewind,
+    )
 }
 
 // The same for the weighed effects.
@@ -219,5 +237,17 @@ pub fn sets_by(row: usize, places: &[u64], effects: &[i16], w: Weights) -> Sets
     let wind = marked_by(c.wind, effects, w);
     let quake = marked_by(c.quake, effects, w);
     let flood = marked_by(c.flood, effects, w);
-    named(c.always, earth, free, roof, wind, quake, flood)
+    let ice = marked_by(c.ice, effects, w);
+    let icewind = marked_by(c.icewind, effects, w);
+    named(
+        c.always,
+        earth,
+        free,
+        roof,
+        wind,
+        quake,
+        flood,
+        ice,
+        icewind,
+    )
 }

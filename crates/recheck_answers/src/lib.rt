@@ -71,6 +71,7 @@ fn options(w: WorkingSheet) -> Options {
         method: w.method,
         live: w.live,
         zone: w.zone,
+        ice: w.ice,
     }
 }
 
@@ -168,7 +169,8 @@ pub fn check_answer(w: WorkingSheet, field: &[u8], answer: &[u8]) -> Seen {
             refused: true,
         };
     }
-    let looked = byte_at(field, 0) >= 6;
+    let tag = byte_at(field, 0);
+    let looked = (tag == 6) | (tag == 7);
     Seen {
         ok: carried_out(w, field, answer),
         looked: looked,

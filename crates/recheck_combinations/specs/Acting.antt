@@ -23,6 +23,8 @@ mayAct r acting =
     && atMostOne (bitAnd acting (r .wind))
     && atMostOne (bitAnd acting (r .earthquake))
     && atMostOne (bitAnd acting (r .flood))
+    && atMostOne (bitAnd acting (r .«ice_weight»))
+    && atMostOne (bitAnd acting (r .«ice_wind»))
 
 -- whether a set may be low: it holds acting Hp cases only (SCOPE 4.3)
 abbrev pub mayBeLow : Rules → ℕ → ℕ → Bool

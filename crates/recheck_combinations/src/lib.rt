@@ -28,6 +28,8 @@ pub struct Rules {
     pub wind: u64,
     pub earthquake: u64,
     pub flood: u64,
+    pub ice_weight: u64,
+    pub ice_wind: u64,
     pub hp: u64,
 }
 
@@ -63,11 +65,13 @@ fn having(kinds: &[u8; 32], factors: &[u64; 32], first: u8, last: u8) -> u64 {
 pub fn rules_of(kinds: &[u8; 32], factors: &[u64; 32]) -> Rules {
     Rules {
         always: having(kinds, factors, 1, 3),
-        may: having(kinds, factors, 1, 11),
+        may: having(kinds, factors, 1, 13),
         roof: having(kinds, factors, 6, 8),
         wind: having(kinds, factors, 9, 9),
         earthquake: having(kinds, factors, 10, 10),
         flood: having(kinds, factors, 11, 11),
+        ice_weight: having(kinds, factors, 12, 12),
+        ice_wind: having(kinds, factors, 13, 13),
         hp: having(kinds, factors, 3, 3),
     }
 }
@@ -97,7 +101,9 @@ pub fn may_act(r: Rules, acting: u64) -> bool
     let wind = at_most_one(acting & r.wind);
     let earthquake = at_most_one(acting & r.earthquake);
     let flood = at_most_one(acting & r.flood);
-    cases & roof & wind & earthquake & flood
+    let ice_weight = at_most_one(acting & r.ice_weight);
+    let ice_wind = at_most_one(acting & r.ice_wind);
+    cases & roof & wind & earthquake & flood & ice_weight & ice_wind
 }
 
 // Whether these of the acting cases may take the low factor.

@@ -11,11 +11,12 @@ use recheck_combinations::rules_of;
 use recheck_rows::open;
 use std::num::wrapping_add_usize;
 
-// What opens rows: the sheet's three options.
+// What opens rows and gives their factors: the sheet's four settings.
 pub struct Options {
     pub method: u8,
     pub live: u8,
     pub zone: u8,
+    pub ice: u8,
 }
 
 // The set of filled places.
@@ -156,8 +157,8 @@ pub fn all_between(k: Look, o: Options, kinds: &[u8; 32], effects: &[u16; 96]) -
     let count = subset_count(members(all));
     let mut between = true;
     let mut row: u8 = 0;
-    while row < 41 {
-        if open(row, o.method, o.zone) {
+    while row < 44 {
+        if open(row, o.method, o.zone, o.ice) {
             let factors = factors_in(kinds, row, o.live);
             if !row_between(k, kinds, &factors, effects, &sets, count) {
                 between = false;
@@ -182,5 +183,5 @@ pub fn reaches(k: Look, o: Options, kinds: &[u8; 32], effects: &[u16; 96], c: Na
     let r = rules_of(kinds, &factors);
     let f = figure(k, &factors, effects, c.acting, c.low);
     let admissible = may_act(r, c.acting) & may_be_low(r, c.acting, c.low);
-    open(c.row, o.method, o.zone) & admissible & (f == c.figure)
+    open(c.row, o.method, o.zone, o.ice) & admissible & (f == c.figure)
 }

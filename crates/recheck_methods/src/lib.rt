@@ -39,16 +39,16 @@ fn refused_short(sheet: Sheet, out: &mut [u8]) -> bool {
 
 // Whether the sheet is saved as these bytes, and an output of a byte less is refused.
 pub fn saved_agrees(sheet: Sheet, own: &[u8]) -> bool
-    requires { ⌜ length (now own) < 5959 ⌝ }
+    requires { ⌜ length (now own) < 5963 ⌝ }
 {
     let n = own.len();
     if n == 0 {
         return false;
     }
     let less = n - 1;
-    let mut short = [UNWRITTEN; 5960];
+    let mut short = [UNWRITTEN; 5964];
     let refused = refused_short(sheet, &mut short[0..less]);
-    let mut out = [UNWRITTEN; 5960];
+    let mut out = [UNWRITTEN; 5964];
     let s = saving::save(sheet, &mut out);
     refused & is_written(s, n) & same_at(&out, 0, own) & filled_from(&out, n, UNWRITTEN)
 }
@@ -77,7 +77,8 @@ fn by_method(sheet: Sheet, field: &[u8]) -> Answered
             pair_at(field, 8),
         ),
         6 => sheet.look_extremes(first, second),
-        _ => sheet.look_utilisation(first),
+        7 => sheet.look_utilisation(first),
+        _ => sheet.switch_ice(first),
     }
 }
 
@@ -87,7 +88,7 @@ fn body_length(tag: u8) -> u16 {
         1 => 3,
         2 | 6 => 2,
         3 => 8,
-        4 | 7 => 1,
+        4 | 7 | 8 => 1,
         5 => 7,
         _ => 65535,
     }
@@ -148,7 +149,7 @@ fn answer_is(a: Answer, answer: &[u8]) -> bool {
 // not its tag's has no method.
 pub fn method_agrees(sheet: Sheet, field: &[u8], answer: &[u8], own: &[u8]) -> bool
     requires { ⌜ InRange sheet ⌝ }
-    requires { ⌜ length (now own) < 5959 ⌝ }
+    requires { ⌜ length (now own) < 5963 ⌝ }
 {
     if !is_whole(field) {
         return true;

@@ -16,6 +16,7 @@ fn body_length(tag: u8) -> u16 {
         5 => 7,
         6 => 2,
         7 => 1,
+        8 => 1,
         _ => 65535,
     }
 }
@@ -87,11 +88,17 @@ fn start_refusal(field: &[u8]) -> u8
     due((method < 1) | (method > 2) | options, 4)
 }
 
+fn switch_refusal(field: &[u8], at: usize) -> u8
+    ensures { λ r. ⌜ r ≤ 13 ⌝ }
+{
+    due(byte_at(field, at) > 1, 4)
+}
+
 fn kind_refusal(field: &[u8], at: usize) -> u8
     ensures { λ r. ⌜ r ≤ 13 ⌝ }
 {
     let kind = byte_at(field, at);
-    due((kind < 1) | (kind > 11), 7)
+    due((kind < 1) | (kind > 13), 7)
 }
 
 fn component_refusal(field: &[u8], at: usize) -> u8
@@ -121,6 +128,7 @@ fn body_refusal(field: &[u8]) -> u8
             first(station, first(n, moments))
         }
         6 => first(station, component_refusal(field, 4)),
+        8 => switch_refusal(field, 3),
         _ => station,
     }
 }

@@ -1,4 +1,4 @@
--- SCOPE 3.7: which rows a sheet opens, and the low factor. Flood rows come beside the plain ones.
+-- SCOPE 3.7: which rows a sheet opens, and the low factor. Flood and ice rows come beside the plain ones.
 use Prim.Native.Nat.{ℕ}
 use mathlib.Core.Bool.{Bool, cond, _&&_, _||_}
 use lib.Dec.{eqb, leb}
@@ -6,15 +6,17 @@ use lib.Dec.{eqb, leb}
 abbrev pub between : ℕ → ℕ → ℕ → Bool
 between n first last = leb first n && leb n last
 
--- the plain rows, those of zone 1 and those of zone 2
-unfoldable pub strengthOpen : ℕ → ℕ → Bool
-strengthOpen row zone = between row 1 8 || between row 9 10 && eqb zone 1 || between row 11 12 && eqb zone 2
+-- the plain rows, those of zone 1, those of zone 2, and the ice rows while the switch is 1
+unfoldable pub strengthOpen : ℕ → ℕ → ℕ → Bool
+strengthOpen row zone ice =
+    between row 1 8 || between row 9 10 && eqb zone 1 || between row 11 12 && eqb zone 2 || between row 13 15 && eqb ice 1
 
-unfoldable pub allowableOpen : ℕ → ℕ → Bool
-allowableOpen row zone = between row 21 30 || between row 31 35 && eqb zone 1 || between row 36 40 && eqb zone 2
+unfoldable pub allowableOpen : ℕ → ℕ → ℕ → Bool
+allowableOpen row zone ice =
+    between row 21 30 || between row 31 35 && eqb zone 1 || between row 36 40 && eqb zone 2 || between row 41 43 && eqb ice 1
 
-abbrev pub isOpen : ℕ → ℕ → ℕ → Bool
-isOpen row method zone = cond (eqb method 1) (strengthOpen row zone) (allowableOpen row zone)
+abbrev pub isOpen : ℕ → ℕ → ℕ → ℕ → Bool
+isOpen row method zone ice = cond (eqb method 1) (strengthOpen row zone ice) (allowableOpen row zone ice)
 
 -- in place of the full factor of Hp (SCOPE 4.3)
 abbrev pub lowFactor : ℕ → ℕ

@@ -10,40 +10,47 @@ fn between(n: u8, first: u8, last: u8) -> bool
     (first <= n) & (n <= last)
 }
 
-fn strength_open(row: u8, zone: u8) -> bool
-    ensures { λ r. ⌜ r ≡ strengthOpen row zone ⌝ }
+fn strength_open(row: u8, zone: u8, ice: u8) -> bool
+    ensures { λ r. ⌜ r ≡ strengthOpen row zone ice ⌝ }
 {
-    between(row, 1, 8) | (between(row, 9, 10) & (zone == 1)) | (between(row, 11, 12) & (zone == 2))
+    between(row, 1, 8)
+        | (between(row, 9, 10) & (zone == 1))
+        | (between(row, 11, 12) & (zone == 2))
+        | (between(row, 13, 15) & (ice == 1))
 }
 
-fn allowable_open(row: u8, zone: u8) -> bool
-    ensures { λ r. ⌜ r ≡ allowableOpen row zone ⌝ }
+fn allowable_open(row: u8, zone: u8, ice: u8) -> bool
+    ensures { λ r. ⌜ r ≡ allowableOpen row zone ice ⌝ }
 {
     between(row, 21, 30)
         | (between(row, 31, 35) & (zone == 1))
         | (between(row, 36, 40) & (zone == 2))
+        | (between(row, 41, 43) & (ice == 1))
 }
 
-// Whether a sheet of this method and flood zone opens the row. Flood rows come beside the plain ones.
-pub fn open(row: u8, method: u8, zone: u8) -> bool
-    ensures { λ r. ⌜ r ≡ isOpen row method zone ⌝ }
+// Whether a sheet of this method, flood zone and ice switch opens the row. Flood and ice rows come beside the plain ones.
+pub fn open(row: u8, method: u8, zone: u8, ice: u8) -> bool
+    ensures { λ r. ⌜ r ≡ isOpen row method zone ice ⌝ }
 {
     if method == 1 {
-        return strength_open(row, zone);
+        return strength_open(row, zone, ice);
     }
-    allowable_open(row, zone)
+    allowable_open(row, zone, ice)
 }
 
-// The plain row that a flood row repeats; a plain row is its own.
+// The plain row that a flood or ice row is made from; a plain row is its own.
 fn plain(row: u8) -> u8 {
     match row {
-        9 | 11 => 5,
-        10 | 12 => 7,
+        13 => 2,
+        9 | 11 | 14 => 5,
+        10 | 12 | 15 => 7,
+        41 => 22,
+        42 => 23,
         31 | 36 => 25,
         32 | 37 => 26,
         33 | 38 => 27,
         34 | 39 => 28,
-        35 | 40 => 29,
+        35 | 40 | 43 => 29,
         _ => row,
     }
 }
@@ -82,7 +89,7 @@ fn earth(row: u8) -> u64
     }
 }
 
-// The live option halves the factor of lines 3 to 5 of the strength method, and of no other.
+// The live option halves the factor of lines 3 to 5 of the strength method and of the rows made from them, and of no other.
 fn live(row: u8, option: u8) -> u64
     ensures { λ r. ⌜ r ≤ 2000 ⌝ }
 {
@@ -95,30 +102,33 @@ fn live(row: u8, option: u8) -> u64
     }
 }
 
+// Asked of the row itself: in an ice row the roof load gives way to snow.
 fn roof(row: u8) -> u64
     ensures { λ r. ⌜ r ≤ 2000 ⌝ }
 {
-    match plain(row) {
-        2 | 5 => 500,
+    match row {
+        2 | 5 | 9 | 11 => 500,
         3 | 4 => 1600,
         23 => 1000,
-        24 | 27 => 750,
+        24 | 27 | 33 | 38 => 750,
         _ => 0,
     }
 }
 
-// Rows 6 and 28 take snow and no other load of the roof.
+// Rows 6 and 28 and the ice rows take snow and no other load of the roof.
 fn snow(row: u8) -> u64
     ensures { λ r. ⌜ r ≤ 2000 ⌝ }
 {
-    match plain(row) {
+    match row {
         6 => 200,
-        28 => 750,
+        28 | 34 | 39 => 750,
+        13 | 14 => 500,
+        42 => 1000,
         _ => roof(row),
     }
 }
 
-// Asked of the row itself: zone 2 of the strength method halves the wind of the plain row.
+// Asked of the row itself: zone 2 of the strength method halves the wind of the plain row, and no ice row has it.
 fn wind(row: u8) -> u64
     ensures { λ r. ⌜ r ≤ 2000 ⌝ }
 {
@@ -132,7 +142,7 @@ fn wind(row: u8) -> u64
     }
 }
 
-// Asked of the row itself: no flood row has earthquake.
+// Asked of the row itself: no flood or ice row has earthquake.
 fn earthquake(row: u8) -> u64
     ensures { λ r. ⌜ r ≤ 2000 ⌝ }
 {
@@ -156,6 +166,29 @@ fn flood(row: u8) -> u64
     }
 }
 
+// The weight of ice.
+fn ice_weight(row: u8) -> u64
+    ensures { λ r. ⌜ r ≤ 2000 ⌝ }
+{
+    match row {
+        13 => 200,
+        14 | 15 => 1000,
+        41..=43 => 700,
+        _ => 0,
+    }
+}
+
+// The wind on ice.
+fn ice_wind(row: u8) -> u64
+    ensures { λ r. ⌜ r ≤ 2000 ⌝ }
+{
+    match row {
+        14 | 15 => 1000,
+        42 | 43 => 700,
+        _ => 0,
+    }
+}
+
 // The full factor of a kind in a row, 0 where the kind may not act there. Kind 0 is an empty place.
 pub fn factor(row: u8, kind: u8, option: u8) -> u64
     ensures { λ r. ⌜ r ≤ 2000 ⌝ }
@@ -170,6 +203,8 @@ pub fn factor(row: u8, kind: u8, option: u8) -> u64
         9 => wind(row),
         10 => earthquake(row),
         11 => flood(row),
+        12 => ice_weight(row),
+        13 => ice_wind(row),
         _ => 0,
     }
 }

@@ -27,6 +27,9 @@ ghost use lib.ListN.{length};
 ghost use Rattle.sheet.specs.Range.{InRange};
 ghost use Rattle.recheck_run.specs.Place.{Place, Within};
 
+// The exported calls are given more bytes to save into than any sheet has.
+const SAVED_ROOM: usize = 8192;
+
 // The reader's sheet, the second checker's working sheet, the place of the next field, and that of its answer among those of
 // the fields in one list.
 struct Run {
@@ -59,7 +62,7 @@ fn run_agrees(state: &[u8], field: &[u8], answer: &[u8], after: &[u8]) -> bool
     requires { ⌜ length (now after) < 6000 ⌝ }
 {
     let mut out = [UNWRITTEN; 64];
-    let mut saved = [UNWRITTEN; 5960];
+    let mut saved = [UNWRITTEN; SAVED_ROOM];
     let r = frames_c::frames_run(state, field, &mut out, &mut saved);
     let ran = (r.refusal == 0) & (r.written == answer.len()) & (r.saved == after.len());
     ran & holds(&out, answer) & holds(&saved, after)
@@ -76,7 +79,7 @@ fn forms_agree(
 ) -> bool
     requires { ⌜ InRange sheet ⌝ }
     requires { ⌜ length (now answer) < 65 ⌝ }
-    requires { ⌜ length (now new) < 5959 ⌝ }
+    requires { ⌜ length (now new) < 5963 ⌝ }
 {
     let saved = saved_agrees(next, new);
     let methods = method_agrees(sheet, field, answer, new);
@@ -259,10 +262,10 @@ fn run_all(input: &[u8], list: &[u8]) -> Tally
 // The fields in one list, before they are read one after the other.
 fn run_both(input: &[u8]) -> Tally {
     let mut answers = answers_buffer();
-    let mut saved = [0u8; 5958];
+    let mut saved = [0u8; SAVED_ROOM];
     let r = frames_c::frames_run(b"", input, &mut answers, &mut saved);
     let written = r.written;
-    if written <= 131072 {
+    if written <= 262144 {
         return run_all(input, &answers[0..written]);
     }
     run_all(input, b"")

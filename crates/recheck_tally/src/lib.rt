@@ -80,8 +80,8 @@ pub fn input_buffer() -> [u8; 262144]
     [0; 262144]
 }
 
-pub fn answers_buffer() -> [u8; 131072]
-    ensures { λ r. ⌜ 131072 ≡ length r ⌝ }
+pub fn answers_buffer() -> [u8; 262144]
+    ensures { λ r. ⌜ 262144 ≡ length r ⌝ }
 {
-    [0; 131072]
+    [0; 262144]
 }

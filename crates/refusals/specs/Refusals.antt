@@ -78,6 +78,10 @@ extremesRefusals station component = on (stationOutside station) 6 ∷ on (compo
 abbrev pub utilisationRefusals : (held station : ℕ) → List Refusal
 utilisationRefusals held station = on (stationOutside station) 6 ∷ on (eqb held 0) 13 ∷ []
 
+-- tag 08: 1 or 0
+abbrev pub switchRefusals : (byte : ℕ) → List Refusal
+switchRefusals byte = on (ltb 1 byte) 4 ∷ []
+
 -- the first of each
 unfoldable pub dueSettings : (method live zone : ℕ) → ℕ
 dueSettings method live zone = firstDue (settingsRefusals method live zone)
@@ -99,3 +103,6 @@ dueExtremes station component = firstDue (extremesRefusals station component)
 
 unfoldable pub dueUtilisationAt : (held station : ℕ) → ℕ
 dueUtilisationAt held station = firstDue (utilisationRefusals held station)
+
+unfoldable pub dueSwitch : (byte : ℕ) → ℕ
+dueSwitch byte = firstDue (switchRefusals byte)

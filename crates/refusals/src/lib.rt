@@ -1,7 +1,7 @@
 // The refusals on the values of a body: each function gives the number of the first that is due, or 0.
 ghost use mathlib.Core.Path.{_≡_};
 ghost use mathlib.Core.Bool.{cond};
-ghost use Rattle.refusals.specs.Refusals.{effectOutside, capacityOutside, kindOutside, methodOutside, dueSettings, dueFillAt, dueEffectsAt, dueEmptyAt, dueCapacities, dueExtremes, dueUtilisationAt};
+ghost use Rattle.refusals.specs.Refusals.{effectOutside, capacityOutside, kindOutside, methodOutside, dueSettings, dueFillAt, dueEffectsAt, dueEmptyAt, dueCapacities, dueExtremes, dueSwitch, dueUtilisationAt};
 use standard::Class;
 
 const LAST_CASE: u8 = 31;
@@ -113,4 +113,10 @@ pub fn due_utilisation(station: u8, held: u16) -> u8
 {
     let due = first(held == 0, 13, 0);
     first(LAST_STATION < station, 6, due)
+}
+
+pub fn due_switch(byte: u8) -> u8
+    ensures { λ r. ⌜ r ≡ dueSwitch byte ⌝ }
+{
+    first(1 < byte, 4, 0)
 }

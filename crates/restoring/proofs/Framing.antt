@@ -80,6 +80,9 @@ leads-then {w = w} a b = record {
       (y .0, (y .1 .0, λ rest s″ r. rw append-assoc (x .1 .1 (w ++ rest) s″ (y .1 .1 rest s″ r))));
 }
 
+pub leads-so : {P Q R : Sheet → Type 0} {w : List ℕ} → Leads P w Q → ((s : Sheet) → Q s → R s) → Leads P w R
+leads-so a f = record { from = λ s p. let x = a .from s p in (x .0, (f (x .0) (x .1 .0), x .1 .1)) }
+
 -- bytes that are left out where a test holds
 pub leads-unless : {P Q : Sheet → Type 0} {w : List ℕ} (t : Bool) → (t ≡ true → (s : Sheet) → P s → Q s) → (t ≡ false → Leads P w Q) → Leads P (cond t [] w) Q
 leads-unless true a b = leads-none (a refl)

@@ -12,16 +12,16 @@ use lib.Dec.{eqb, lit<}
 use lib.IntN.{ℤ, pos, negsuc, natAbs}
 use Rattle.wire.specs.Bytes.{bits16, wordBytes}
 use Rattle.sheet.specs.declared.Sheet.{Sheet}
-use Rattle.sheet.specs.Sheet.{kindAt, effectAt, capacityAt, fresh, freshSheet, withKind, withEffects, withCapacities}
-use Rattle.refusals.specs.Refusals.{dueSettings}
+use Rattle.standard.specs.declared.Settings.{Settings}
+use Rattle.sheet.specs.Sheet.{kindAt, effectAt, capacityAt, fresh, freshSheet, withKind, withEffects, withCapacities, withSwitch}
 use Rattle.sheet.specs.Range.{InRange, AllOrNone}
 use Rattle.refusals.proofs.Fits.{CapacitiesFit, inside, fill-allowed, effects-allowed, capacities-allowed}
-use Rattle.sheet.proofs.Kept.{fresh-in-range}
+use Rattle.sheet.proofs.Kept.{fresh-kept}
 use Rattle.fields.proofs.Kept.{read-kept}
 use Rattle.fields.specs.Readings.{ReadThrough, end, field}
-use Rattle.saved_fields.specs.Saved.{upTo, words, settingsField, fillField, effectsField, capacitiesField, allZero, stationBytes, caseBytes, capacityBytes, savedBy, savedBytes}
-use Rattle.restoring.proofs.Framing.{Leads, leads-field, leads-then, leads-unless, leads-upTo}
-use Rattle.restoring.proofs.Stages.{Partly, settings-edit, fill-edit, effects-edit, capacities-edit, effect-back, effect-within, of-three, not-below, is-below, none-there, all-there, nothing-more, kind-there, effects-there, capacities-there}
+use Rattle.saved_fields.specs.Saved.{upTo, words, settingsField, switchField, settingsBytes, fillField, effectsField, capacitiesField, allZero, stationBytes, caseBytes, capacityBytes, savedBy, savedBytes}
+use Rattle.restoring.proofs.Framing.{Leads, leads-field, leads-then, leads-so, leads-unless, leads-upTo}
+use Rattle.restoring.proofs.Stages.{Partly, settled, Settled, settings-edit, switch-edit, fill-edit, effects-edit, capacities-edit, effect-back, effect-within, of-three, not-below, is-below, none-there, all-there, nothing-more, kind-there, effects-there, capacities-there}
 use Rattle.answers.specs.Answers.{answerRoom}
 
 both : (a b : Bool) → (a && b) ≡ true → (a ≡ true) × (b ≡ true)
@@ -42,12 +42,38 @@ some-of-three f (inl a) ne = absurd (ne (a .0))
 some-of-three f (inr a) ne = record { station = f; n = a .0; y = a .1; z = a .2 }
 
 module _ (s : Sheet) (h : InRange s) where
-  settings-read : Leads (λ _. Unit) (settingsField (s .settings)) (Partly s 0 0 0)
-  unfolding settingsField
-  settings-read =
-      leads-field 1 (s .settings .method ∷ s .settings .live ∷ s .settings .zone ∷ []) (λ _. fresh (s .settings)) (lit< tt)
-      (λ p _. settings-edit p _ _ _ (h .settings))
-      (λ _ _. none-there s)
+  abbrev own : Settings
+  own = s .settings
+
+  first-read : Leads (λ _. Unit) (settingsField own) (Settled 0 s)
+  unfolding settingsField settled
+  first-read =
+      leads-field 1 (own .method ∷ own .live ∷ own .zone ∷ []) (λ _. fresh (settled 0 own)) (lit< tt)
+      (λ p _. settings-edit p _ _ _ (h .settings .0))
+      (λ _ _. record { is = refl })
+
+  switch-off : own .ice ≡ 0 → (p : Sheet) → Settled 0 s p → Settled 1 s p
+  unfolding settled
+  switch-off e p r = record { is = r .is ∙ rw e }
+
+  switch-on : Leads (Settled 0 s) (8 ∷ 0 ∷ 1 ∷ own .ice ∷ []) (Settled 1 s)
+  unfolding settled withSwitch fresh
+  switch-on =
+      leads-field 8 (own .ice ∷ []) (λ p. withSwitch p (own .ice)) (lit< tt)
+      (λ p _. switch-edit p (own .ice) (h .settings .1))
+      (λ p r. record { is = ap (λ (x : Sheet). withSwitch x (own .ice)) (r .is) })
+
+  switch-read : Leads (Settled 0 s) (switchField own) (Settled 1 s)
+  unfolding switchField
+  switch-read = leads-unless (eqb (own .ice) 0) (λ e. switch-off (eqb-true (own .ice) 0 e)) (λ _. switch-on)
+
+  all-settled : (p : Sheet) → Settled 1 s p → Partly s 0 0 0 p
+  unfolding settled
+  all-settled p r = rw (r .is) (none-there s)
+
+  settings-read : Leads (λ _. Unit) (settingsBytes own) (Partly s 0 0 0)
+  unfolding settingsBytes
+  settings-read = leads-so (leads-then first-read switch-read) all-settled
 
   module _ (k : ℕ) (g : k < 32) where
     -- before the fields of the case, and after those of its stations below t
@@ -184,5 +210,4 @@ read-through-kept (field e r) h = read-through-kept r (read-kept _ answerRoom _ 
 
 -- with in-range-made: a sheet is in range exactly when fields make it from a fresh one
 pub made-in-range : {s : Sheet} → (w : List ℕ) × ReadThrough w freshSheet s → InRange s
-unfolding dueSettings
-made-in-range m = read-through-kept (m .1) (fresh-in-range (record { method = 1; live = 0; zone = 0 }) refl)
+made-in-range m = read-through-kept (m .1) fresh-kept

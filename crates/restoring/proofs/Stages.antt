@@ -18,8 +18,10 @@ use mir.ValLaws.{toZ-ofZ}
 use Rattle.wire.specs.Bytes.{signed16, bits16}
 use Rattle.wire.proofs.Cases.{lt-or-ge, eq-or-ne}
 use Rattle.sheet.specs.declared.Sheet.{Sheet}
-use Rattle.sheet.specs.Sheet.{kindAt, effectAt, capacityAt, fresh, withKind, withEffects, withCapacities}
-use Rattle.refusals.specs.Refusals.{dueSettings, dueFillAt, dueEffectsAt, dueCapacities}
+use Rattle.standard.specs.declared.Settings.{Settings}
+use Rattle.standard.specs.Rows.{settingsOf, switched}
+use Rattle.sheet.specs.Sheet.{kindAt, effectAt, capacityAt, fresh, withKind, withEffects, withCapacities, withSwitch}
+use Rattle.refusals.specs.Refusals.{dueSettings, dueFillAt, dueEffectsAt, dueCapacities, dueSwitch}
 use Rattle.sheet.specs.Edits.{dueFill, dueEffects, unlessRefused}
 use Rattle.sheet.specs.Range.{InRange}
 use Rattle.sheet.proofs.Access.{Long, long, fresh-long, kind-long, effects-long, capacities-long, kind-filled, kind-other, effect-cleared, effect-kept, kind-leaves-capacity, kind-leaves-settings, effect-replaced, effect-other, effects-leave-kind, effects-leave-capacity, effects-leave-settings, capacity-replaced, capacity-other, capacities-leave-kind, capacities-leave-effect, capacities-leave-settings, fresh-settings, fresh-kind, fresh-effect, fresh-capacity, same-sheet}
@@ -32,9 +34,13 @@ use Rattle.restoring.proofs.Framing.{accepted}
 
 -- ---- a field that is not refused
 pub settings-edit : (s : Sheet) (m l z : ℕ) → dueSettings m l z ≡ 0 →
-    fieldOf s 1 (m ∷ l ∷ z ∷ []) ≡ accepted (fresh (record { method = m; live = l; zone = z }))
+    fieldOf s 1 (m ∷ l ∷ z ∷ []) ≡ accepted (fresh (settingsOf m l z))
 unfolding fieldOf dueHeader lengthOf runOf unlessRefused dueSettings
 settings-edit s m l z e = ap edited (sym (tried-none (dueSettings m l z) s _ e refl))
+
+pub switch-edit : (s : Sheet) (byte : ℕ) → dueSwitch byte ≡ 0 → fieldOf s 8 (byte ∷ []) ≡ accepted (withSwitch s byte)
+unfolding fieldOf dueHeader lengthOf runOf unlessRefused dueSwitch
+switch-edit s byte e = ap edited (sym (tried-none (dueSwitch byte) s _ e refl))
 
 pub fill-edit : (s : Sheet) (k v : ℕ) → dueFill s k v ≡ 0 → fieldOf s 2 (k ∷ v ∷ []) ≡ accepted (withKind s k v)
 unfolding fieldOf dueHeader lengthOf runOf unlessRefused dueFillAt
@@ -110,6 +116,14 @@ module _ {A : Type 0} where
       (λ (e : i ≡ n). let g : i < suc n = omega arith in a e ∙ sym (is-below (suc n) i x d g))
       (λ (ne : i ≡ n → ⊥). b ne ∙ o ∙ further n (suc n) i x d (omega arith) (λ f g. absurd (ne (omega arith))))
       (eq-or-ne i n)
+
+-- the settings after each field of them: tag 01's, and then with the switch
+unfoldable pub settled : ℕ → Settings → Settings
+settled zero s = settingsOf (s .method) (s .live) (s .zone)
+settled (suc n) s = switched (s .ice) (settingsOf (s .method) (s .live) (s .zone))
+
+pub record Settled (n : ℕ) (s p : Sheet) : Type 0 where
+  pub is : p ≡ fresh (settled n (s .settings))
 
 -- p has the settings of s, its first a kinds, its effects at the first e stations, counted case by case, and its capacities at
 -- the first c stations

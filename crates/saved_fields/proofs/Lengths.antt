@@ -1,7 +1,7 @@
 -- How long the bytes of stations, of places and of a whole sheet are at most.
 -- Assumes nothing.
 use Prim.Native.Nat.{ℕ, zero, suc, _*_, _≤_, zero-le}
-use mathlib.Core.List.{List, [], _++_}
+use mathlib.Core.List.{List, [], _∷_, _++_}
 use mathlib.Core.Bool.{Bool, true, false, cond}
 use native.Mathlib.Nat.{suc-mul}
 use native.Mathlib.Omega.{arith}
@@ -11,7 +11,7 @@ use lib.ListN.{length, length-append}
 use Rattle.standard.specs.declared.Settings.{Settings}
 use Rattle.sheet.specs.declared.Sheet.{Sheet}
 use Rattle.sheet.specs.Sheet.{kindAt, effectAt, capacityAt}
-use Rattle.saved_fields.specs.Saved.{upTo, words, settingsField, fillField, effectsField, capacitiesField, allZero, stationBytes, caseBytes, capacityBytes, savedBy, savedBytes, stationMost, caseMost, capacityMost, savedMost}
+use Rattle.saved_fields.specs.Saved.{upTo, words, settingsField, switchField, settingsBytes, settingsMost, fillField, effectsField, capacitiesField, allZero, stationBytes, caseBytes, capacityBytes, savedBy, savedBytes, stationMost, caseMost, capacityMost, savedMost}
 
 -- n runs, each of b bytes at most
 pub upTo-most : (f : ℕ → List ℕ) (b : ℕ) → ((k : ℕ) → length (f k) ≤ b) → (n : ℕ) → length (upTo f n) ≤ n * b
@@ -46,19 +46,26 @@ capacity-most capacity station =
     let held : ℕ → ℕ = capacity station in
     cond-most (eqb (held 0) 0) (capacitiesField station (held 0) (held 1) (held 2)) capacityMost (lit≤ tt)
 
+pub settings-most : (s : Settings) → length (settingsBytes s) ≤ settingsMost
+unfolding settingsBytes settingsField switchField
+settings-most s =
+    let h = cond-most (eqb (s .ice) 0) (8 ∷ 0 ∷ 1 ∷ s .ice ∷ []) 4 (lit≤ tt) in
+    omega (arith, length-append (settingsField s) (switchField s), h)
+
 module _ (kind : ℕ → ℕ) (effect : ℕ → ℕ → ℕ → ℤ) where
   -- what is saved of all places
   pub places-most : length (upTo (caseBytes kind effect) 32) ≤ 32 * caseMost
   places-most = upTo-most (caseBytes kind effect) caseMost (case-most effect kind) 32
 
   by-most : (settings : Settings) (capacity : ℕ → ℕ → ℕ) → length (savedBy settings kind effect capacity) ≤ savedMost
-  unfolding savedBy settingsField
+  unfolding savedBy
   by-most settings capacity =
       let v = upTo (caseBytes kind effect) 32 in
       let w = upTo (capacityBytes capacity) 16 in
       let h = places-most in
       let g = upTo-most (capacityBytes capacity) capacityMost (capacity-most capacity) 16 in
-      rw (length-append (settingsField settings) (v ++ w), length-append v w) (omega arith)
+      let k = settings-most settings in
+      rw (length-append (settingsBytes settings) (v ++ w), length-append v w) (omega arith)
 
 -- a saved sheet's greatest size
 pub saved-most : (s : Sheet) → length (savedBytes s) ≤ savedMost

@@ -22,6 +22,14 @@ words n y z = wordBytes n ++ (wordBytes y ++ wordBytes z)
 unfoldable pub settingsField : Settings → List ℕ
 settingsField s = 1 ∷ 0 ∷ 3 ∷ s .method ∷ s .live ∷ s .zone ∷ []
 
+-- tag 08 where the ice rows are switched on
+unfoldable pub switchField : Settings → List ℕ
+switchField s = cond (eqb (s .ice) 0) [] (8 ∷ 0 ∷ 1 ∷ s .ice ∷ [])
+
+-- all settings
+unfoldable pub settingsBytes : Settings → List ℕ
+settingsBytes s = settingsField s ++ switchField s
+
 unfoldable pub fillField : ℕ → ℕ → List ℕ
 fillField case kind = 2 ∷ 0 ∷ 2 ∷ case ∷ kind ∷ []
 
@@ -50,15 +58,15 @@ unfoldable pub capacityBytes : (ℕ → ℕ → ℕ) → ℕ → List ℕ
 capacityBytes capacity station =
     cond (eqb (capacity station 0) 0) [] (capacitiesField station (capacity station 0) (capacity station 1) (capacity station 2))
 
--- tag 01; then each filled place, rising; then each station that has capacities
+-- tag 01, and tag 08 where the ice rows are on; then each filled place, rising; then each station that has capacities
 unfoldable pub savedBy : Settings → (ℕ → ℕ) → (ℕ → ℕ → ℕ → ℤ) → (ℕ → ℕ → ℕ) → List ℕ
 savedBy settings kind effect capacity =
-    settingsField settings ++ (upTo (caseBytes kind effect) 32 ++ upTo (capacityBytes capacity) 16)
+    settingsBytes settings ++ (upTo (caseBytes kind effect) 32 ++ upTo (capacityBytes capacity) 16)
 
 unfoldable pub savedBytes : Sheet → List ℕ
 savedBytes s = savedBy (s .settings) (kindAt s) (effectAt s) (capacityAt s)
 
--- the most bytes of a station, of a place, of a station's capacities and of a sheet: 5,958 (SCOPE 8.3)
+-- the most bytes of a station, of a place, of a station's capacities, of the settings and of a sheet: 5,962 (SCOPE 8.3)
 abbrev pub stationMost : ℕ
 stationMost = 11
 
@@ -68,5 +76,8 @@ caseMost = 5 + 16 * stationMost
 abbrev pub capacityMost : ℕ
 capacityMost = 10
 
+abbrev pub settingsMost : ℕ
+settingsMost = 6 + 4
+
 abbrev pub savedMost : ℕ
-savedMost = 6 + 32 * caseMost + 16 * capacityMost
+savedMost = settingsMost + 32 * caseMost + 16 * capacityMost

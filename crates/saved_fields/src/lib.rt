@@ -1,5 +1,6 @@
 // Writes the fields of a saved sheet, place by place and station by station.
 use effects::Effects;
+use standard::Settings;
 ghost use mathlib.Core.Path.{_≡_};
 ghost use Prim.Native.Nat.{ℕ, _+_, _*_, _<_, _≤_};
 ghost use lib.ListN.{length, getD};
@@ -7,7 +8,7 @@ ghost use lib.Seq.{sets};
 ghost use Rattle.wire.specs.Bytes.{Put};
 ghost use Rattle.effects.specs.Effects.{effectIn};
 ghost use Rattle.sheet.specs.Sheet.{capacityIn};
-ghost use Rattle.saved_fields.specs.Saved.{upTo, words, allZero, stationBytes, caseBytes, capacityBytes, stationMost, caseMost, capacityMost};
+ghost use Rattle.saved_fields.specs.Saved.{upTo, words, allZero, stationBytes, caseBytes, capacityBytes, stationMost, caseMost, capacityMost, settingsBytes, settingsMost};
 
 // The effect of a case at a station on component j.
 fn effect_in(effects: &Effects, case: usize, station: usize, j: usize) -> i16
@@ -126,4 +127,18 @@ pub fn put_capacities(capacities: &[u16; 48], out: &mut [u8], at: usize) -> usiz
         i += 1;
     }
     to
+}
+
+// The settings: tag 01, and tag 08 where the ice rows are on.
+pub fn put_settings(s: Settings, out: &mut [u8]) -> usize
+    requires { ⌜ settingsMost ≤ length (now out) ⌝ }
+    ensures { λ r. ⌜ Put (now (out .entry)) 0 (settingsBytes s) r (now (out .exit)) ⌝ }
+{
+    let b = [1u8, 0, 3, s.method, s.live, s.zone];
+    let at = wire::put_at(out, 0, &b);
+    if s.ice == 0 {
+        return at;
+    }
+    let on = [8u8, 0, 1, s.ice];
+    wire::put_at(out, at, &on)
 }

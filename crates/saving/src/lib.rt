@@ -11,7 +11,7 @@ ghost use Rattle.saved_fields.specs.Saved.{savedBytes, savedMost};
 ghost use Rattle.saving.specs.Saving.{savedOver, savedAnswer};
 
 // The most bytes of a saved sheet.
-pub const SAVED_MOST: usize = 6 + 32 * (5 + 16 * 11) + 16 * 10;
+pub const SAVED_MOST: usize = 6 + 4 + 32 * (5 + 16 * 11) + 16 * 10;
 
 // The count of bytes written, or the refusal 14.
 pub enum Saved {
@@ -26,8 +26,7 @@ fn put_all(rest: Rest, effects: &Effects, out: &mut [u8]) -> usize
     let s = rest.settings;
     let kinds = rest.kinds;
     let capacities = rest.capacities;
-    let b = [1u8, 0, 3, s.method, s.live, s.zone];
-    let cases = wire::put_at(out, 0, &b);
+    let cases = saved_fields::put_settings(s, out);
     let stations = saved_fields::put_cases(&kinds, effects, out, cases);
     saved_fields::put_capacities(&capacities, out, stations)
 }

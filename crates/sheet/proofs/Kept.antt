@@ -11,7 +11,7 @@ use lib.ListN.{getD}
 use lib.IntN.{ℤ, pos, natAbs}
 use borrow.Author.Tests.{eqb-true}
 use Rattle.standard.specs.declared.Settings.{Settings}
-use Rattle.standard.specs.Rows.{freshSettings}
+use Rattle.standard.specs.Rows.{settingsOf, freshSettings}
 use Rattle.standard.specs.Kinds.{kindCount}
 use Rattle.standard.specs.Combination.{caseCount}
 use Rattle.envelope.specs.Range.{effectLimit, stationCount}
@@ -19,9 +19,9 @@ use Rattle.wire.specs.Bytes.{signed16}
 use Rattle.wire.proofs.Cases.{either, eq-or-ne}
 use Rattle.wire.proofs.Stores.{set-keep, sets-keep, replicate-all}
 use Rattle.sheet.specs.declared.Sheet.{Sheet}
-use Rattle.sheet.specs.Sheet.{kindAt, effectAt, capacityAt, fresh, freshSheet, withKind, withEffects, withCapacities}
+use Rattle.sheet.specs.Sheet.{kindAt, effectAt, capacityAt, fresh, freshSheet, withKind, withEffects, withCapacities, withSwitch}
 use Rattle.effects.specs.Effects.{place, cleared}
-use Rattle.refusals.specs.Refusals.{dueSettings, dueCapacities}
+use Rattle.refusals.specs.Refusals.{dueSettings, dueCapacities, dueSwitch}
 use Rattle.sheet.specs.Edits.{dueFill, dueEffects, dueEmpty, unlessRefused}
 use Rattle.sheet.specs.Range.{InRange, SettingsInRange, AllOrNone}
 use Rattle.refusals.proofs.Fits.{fill-range, effects-range, empty-range, capacities-range}
@@ -46,8 +46,8 @@ fresh-in-range settings e =
     }
 
 pub fresh-kept : InRange freshSheet
-unfolding dueSettings
-fresh-kept = fresh-in-range freshSettings refl
+unfolding dueSettings dueSwitch
+fresh-kept = fresh-in-range freshSettings (refl, refl)
 
 -- a place that is filled or emptied
 cleared-within : (l : List ℤ) (k n i : ℕ) → Within (getD l i (pos 0)) → Within (getD (cleared l k n) i (pos 0))
@@ -138,6 +138,22 @@ tried-kept d s s′ h g = ⊎-elim
     (λ (e : eqb d 0 ≡ false). rw e h)
     (either (eqb d 0))
 
-pub restarted : (s : Sheet) (settings : Settings) → InRange s →
-    InRange (unlessRefused (dueSettings (settings .method) (settings .live) (settings .zone)) s (fresh settings) .sheet)
-restarted s settings h = tried-kept (dueSettings (settings .method) (settings .live) (settings .zone)) s (fresh settings) h (fresh-in-range settings)
+pub restarted : (s : Sheet) (method live zone : ℕ) → InRange s →
+    InRange (unlessRefused (dueSettings method live zone) s (fresh (settingsOf method live zone)) .sheet)
+unfolding dueSwitch
+restarted s method live zone h =
+    tried-kept (dueSettings method live zone) s (fresh (settingsOf method live zone)) h (λ e. fresh-in-range (settingsOf method live zone) (e, refl))
+
+pub switch-kept : (s : Sheet) (byte : ℕ) → InRange s → dueSwitch byte ≡ 0 → InRange (withSwitch s byte)
+unfolding withSwitch effectAt capacityAt
+switch-kept s byte h e =
+    record {
+      settings = (h .settings .0, e);
+      kinds-long = h .kinds-long;
+      effects-long = h .effects-long;
+      capacities-long = h .capacities-long;
+      kinds-range = h .kinds-range;
+      effects-range = h .effects-range;
+      empty-zero = h .empty-zero;
+      capacities-whole = h .capacities-whole;
+    }

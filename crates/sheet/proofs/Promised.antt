@@ -95,7 +95,7 @@ not-utilisation e = let z : _≡_ {A = ℕ} 0 1 = cc in omega arith
 module _ (w : Sheet) (h : InRange w) where
   method-known : KnownMethod (w .settings)
   method-known =
-      let f = settings-range _ _ _ (h .settings) in
+      let f = settings-range _ _ _ (h .settings .0) in
       ⊎-elim inl (λ n. inr (omega (arith, f .some, f .method))) (eq-or-ne (w .settings .method) 1)
 
   none-past : (k : ℕ) → caseCount ≤ k → kindAt w k ≡ 0

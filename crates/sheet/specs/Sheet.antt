@@ -6,7 +6,7 @@ use lib.Seq.{sets}
 use lib.IntN.{ℤ}
 use Rattle.standard.specs.declared.Settings.{Settings}
 use Rattle.standard.specs.Combination.{caseCount}
-use Rattle.standard.specs.Rows.{freshSettings}
+use Rattle.standard.specs.Rows.{switched, freshSettings}
 use Rattle.envelope.specs.Range.{stationCount, componentCount}
 use Rattle.effects.specs.Effects.{effectCount, place, effectIn, zeros, cleared}
 use Rattle.sheet.specs.declared.Sheet.{Sheet}
@@ -52,3 +52,7 @@ withEffects s case station n y z =
 unfoldable pub withCapacities : Sheet → ℕ → ℕ → ℕ → ℕ → Sheet
 withCapacities s station n y z =
     record { settings = s .settings; kinds = s .kinds; effects = s .effects; capacities = sets (s .capacities) (station * componentCount) (n ∷ y ∷ z ∷ []) }
+
+-- tag 08: the ice rows switched on, at 1, or off (SCOPE 5.2)
+unfoldable pub withSwitch : Sheet → ℕ → Sheet
+withSwitch s byte = record { settings = switched byte (s .settings); kinds = s .kinds; effects = s .effects; capacities = s .capacities }

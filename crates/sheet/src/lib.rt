@@ -7,10 +7,10 @@ ghost use mathlib.Core.List.{List, [], _∷_};
 ghost use Prim.Native.Nat.{_*_, _<_};
 ghost use Rattle.wire.specs.Bytes.{signed16};
 ghost use Rattle.standard.specs.Combination.{caseCount};
-ghost use Rattle.standard.specs.Rows.{settingsOf};
+ghost use Rattle.standard.specs.Rows.{settingsOf, switched};
 ghost use Rattle.envelope.specs.Range.{stationCount, componentCount};
-ghost use Rattle.refusals.specs.Refusals.{dueSettings, dueCapacities, dueExtremes};
-ghost use Rattle.sheet.specs.Sheet.{fresh, withKind, withEffects, withCapacities};
+ghost use Rattle.refusals.specs.Refusals.{dueSettings, dueCapacities, dueExtremes, dueSwitch};
+ghost use Rattle.sheet.specs.Sheet.{fresh, withKind, withEffects, withCapacities, withSwitch};
 ghost use Rattle.sheet.specs.Range.{InRange};
 ghost use Rattle.sheet.specs.Looks.{extremesAt, utilisationAt, unlessDue, edited, dueUtilisation, lookedExtremes, lookedUtilisation, ExtremesPromised, UtilisationPromised};
 ghost use Rattle.sheet.specs.Parts.{restOf, whole, wholeOf};
@@ -140,6 +140,15 @@ impl Sheet {
         r.with_effects(effects)
     }
 
+    // Tag 08.
+    pub fn switch_ice(self, byte: u8) -> Answered
+        ensures { λ r. ⌜ r ≡ edited (unlessRefused (dueSwitch byte) self (withSwitch self byte)) ⌝ }
+    {
+        let effects = self.effects;
+        let r = self.rest().switch_ice(byte);
+        r.with_effects(effects)
+    }
+
     // Tag 06.
     pub fn look_extremes(self, station: u8, component: u8) -> Answered
         requires { ⌜ InRange self ⌝ }
@@ -236,6 +245,15 @@ impl Rest {
         r.capacities[at] = n;
         r.capacities[at + 1] = y;
         r.capacities[at + 2] = z;
+        r
+    }
+
+    fn switched(self, byte: u8) -> Rest
+        ensures { λ r. ⌜ r ≡ record { settings = switched byte (self .settings); kinds = self .kinds; capacities = self .capacities } ⌝ }
+    {
+        let settings = self.settings;
+        let mut r = self;
+        r.settings = settings.switched(byte);
         r
     }
 
@@ -343,6 +361,24 @@ impl Rest {
         let due = refusals::due_capacities(station, n, y, z);
         if due == 0 {
             let rest = self.with_capacities(station as usize, n, y, z);
+            return AnsweredRest {
+                answer: Answer::Accepted,
+                rest,
+            };
+        }
+        AnsweredRest {
+            answer: Answer::Refused(due),
+            rest: self,
+        }
+    }
+
+    // Tag 08.
+    pub fn switch_ice(self, byte: u8) -> AnsweredRest
+        ensures { λ r. ⌜ ((effects : List ℤ) → wholeOf r effects ≡ edited (unlessRefused (dueSwitch byte) (whole self effects) (withSwitch (whole self effects) byte))) ⌝ }
+    {
+        let due = refusals::due_switch(byte);
+        if due == 0 {
+            let rest = self.switched(byte);
             return AnsweredRest {
                 answer: Answer::Accepted,
                 rest,

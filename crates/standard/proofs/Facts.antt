@@ -17,7 +17,7 @@ use Rattle.standard.specs.declared.Settings.{Settings}
 use Rattle.standard.specs.declared.Class.{Class}
 use Rattle.standard.specs.declared.Class.the-variants.{Always, Subset, OneOf, Unknown}
 use Rattle.standard.specs.Kinds.{classes, classOf, unknown, kindCount, groupCount, permanentEarth}
-use Rattle.standard.specs.Rows.{Live, num, f, Line, blank, lines, liveFactor, roofFactor, snowFactor, columns, rowCount, factorOf, lowOf, Span, rowsTo, plainRows, byZone, floodRows, openRows, within, inSpans}
+use Rattle.standard.specs.Rows.{Live, num, f, Line, blank, lines, liveFactor, roofFactor, snowFactor, columns, rowCount, factorOf, lowOf, Span, rowsTo, plainRows, byZone, floodRows, byIce, iceRows, openRows, within, inSpans}
 use Rattle.standard.specs.Columns.{factoredKinds, kindsIn}
 use Rattle.standard.proofs.Table.{tabulate, same-at, all, all-at, all₂, all₂-at}
 
@@ -124,13 +124,18 @@ joined (p ∷ ps) qs a b =
     and-both (inTable p) (all inTable (ps ++ qs)) (and-left (inTable p) (all inTable ps) a) (joined ps qs (and-right (inTable p) (all inTable ps) a) b)
 
 open-in-table : (s : Settings) → allInTable (openRows s)
-unfolding openRows plainRows floodRows inTable
+unfolding openRows plainRows floodRows iceRows inTable
 open-in-table s =
-    joined (plainRows s) (floodRows s) (by-method (rowsTo 1 8 ∷ []) (rowsTo 21 30 ∷ []) tt tt)
+    joined (plainRows s) (floodRows s ++ iceRows s) (by-method (rowsTo 1 8 ∷ []) (rowsTo 21 30 ∷ []) tt tt)
+    (joined (floodRows s) (iceRows s)
     (by-method (byZone s (rowsTo 9 10) (rowsTo 11 12)) (byZone s (rowsTo 31 35) (rowsTo 36 40)) (by-zone (rowsTo 9 10) (rowsTo 11 12) tt tt) (by-zone (rowsTo 31 35) (rowsTo 36 40) tt tt))
+    (by-method (byIce s (rowsTo 13 15)) (byIce s (rowsTo 41 43)) (by-ice (rowsTo 13 15) tt) (by-ice (rowsTo 41 43) tt)))
   where
     by-method : (ps qs : List Span) → allInTable ps → allInTable qs → allInTable (cond (eqb (s .method) 1) ps (cond (eqb (s .method) 2) qs []))
     by-method ps qs a b = of-both allInTable (eqb (s .method) 1) ps (cond (eqb (s .method) 2) qs []) a (of-both allInTable (eqb (s .method) 2) qs [] b tt)
+
+    by-ice : (p : Span) → allInTable (p ∷ []) → allInTable (byIce s p)
+    by-ice p a = of-both allInTable (eqb (s .ice) 1) (p ∷ []) [] a tt
 
     by-zone : (p q : Span) → allInTable (p ∷ []) → allInTable (q ∷ []) → allInTable (byZone s p q)
     by-zone p q a b = of-both allInTable (eqb (s .zone) 1) (p ∷ []) (cond (eqb (s .zone) 2) (q ∷ []) []) a (of-both allInTable (eqb (s .zone) 2) (q ∷ []) [] b tt)
@@ -186,11 +191,11 @@ getD-map q (x ∷ xs) d (suc k) = getD-map q xs d k
 live-stays : (l : Line) (halved : Bool) (k : ℕ) → k < kindCount → ltb 0 (getD (columns false l) k 0) ≡ ltb 0 (getD (columns halved l) k 0)
 live-stays l false k h = refl
 live-stays l true k h =
-    same-at (λ j. ltb 0 (getD (columns false l) j 0)) (λ j. ltb 0 (getD (columns true l) j 0)) 0 12 k (λ i. ltb 0 0
+    same-at (λ j. ltb 0 (getD (columns false l) j 0)) (λ j. ltb 0 (getD (columns true l) j 0)) 0 14 k (λ i. ltb 0 0
     ∷ ltb 0 (l .dead) ∷ ltb 0 (l .fluid) ∷ ltb 0 (l .earth) ∷ ltb 0 (l .earth)
     ∷ stays (l .live) i
     ∷ ltb 0 (roofFactor (l .roof)) ∷ ltb 0 (snowFactor (l .roof)) ∷ ltb 0 (roofFactor (l .roof))
-    ∷ ltb 0 (l .wind) ∷ ltb 0 (l .quake) ∷ ltb 0 (l .flood) ∷ []) (omega arith) (omega arith)
+    ∷ ltb 0 (l .wind) ∷ ltb 0 (l .quake) ∷ ltb 0 (l .flood) ∷ ltb 0 (l .ice) ∷ ltb 0 (l .icewind) ∷ []) (omega arith) (omega arith)
   where
     stays : (v : Live) → ltb 0 (liveFactor false v) ≡ ltb 0 (liveFactor true v)
     stays (num x) = refl
@@ -209,7 +214,7 @@ kind-in s r k h =
 
 -- the kinds of a group that have a factor in a row have the same one
 groupFactor : Line → ℕ → ℕ
-groupFactor l g = getD (snowFactor (l .roof) ∷ l .wind ∷ l .quake ∷ l .flood ∷ []) g 0
+groupFactor l g = getD (snowFactor (l .roof) ∷ l .wind ∷ l .quake ∷ l .flood ∷ l .ice ∷ l .icewind ∷ []) g 0
 
 shared-test : Line → Class → ℕ → Bool
 shared-test l Always x = true

@@ -8,13 +8,14 @@ use Rattle.integers.specs.Sums.{maskOf}
 use Rattle.standard.specs.Kinds.{kindCount}
 use Rattle.standard.specs.Rows.{Line, lines, blank, columns, liveFactor, roofFactor, snowFactor}
 
--- of each row the columns D, F, H, L, L with live option 1, roof, S, W, E, Fa
+-- of each row the columns D, F, H, L, L with live option 1, roof, S, W, E, Fa, Di, Wi
 abbrev pub entries : Line → List ℕ
 entries l =
     l .dead ∷ l .fluid ∷ l .earth
     ∷ liveFactor false (l .live) ∷ liveFactor true (l .live)
     ∷ roofFactor (l .roof) ∷ snowFactor (l .roof)
     ∷ l .wind ∷ l .quake ∷ l .flood
+    ∷ l .ice ∷ l .icewind
     ∷ []
 
 unfoldable pub rowTable : List (List ℕ)
@@ -22,7 +23,7 @@ rowTable = map entries lines
 
 -- the column of each kind
 abbrev pub kindColumns : Bool → List ℕ
-kindColumns halved = 0 ∷ 0 ∷ 1 ∷ 2 ∷ 2 ∷ cond halved 4 3 ∷ 5 ∷ 6 ∷ 5 ∷ 7 ∷ 8 ∷ 9 ∷ []
+kindColumns halved = 0 ∷ 0 ∷ 1 ∷ 2 ∷ 2 ∷ cond halved 4 3 ∷ 5 ∷ 6 ∷ 5 ∷ 7 ∷ 8 ∷ 9 ∷ 10 ∷ 11 ∷ []
 
 unfoldable pub columnOf : Bool → ℕ → ℕ
 columnOf halved kind = getD (kindColumns halved) kind 0

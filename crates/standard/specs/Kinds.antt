@@ -6,8 +6,9 @@ use lib.ListN.{getD}
 use Rattle.standard.specs.declared.Class.{Class}
 use Rattle.standard.specs.declared.Class.the-variants.{Always, Subset, OneOf, Unknown}
 
--- By kind, from 0, an empty place: D, F, Hp, Hv, L, Lr, S, R, W, E, Fa.
--- All D, F and Hp cases act; any subset of Hv and of L; at most one among Lr, S and R together; at most one W, one E, one Fa (SCOPE 4.2).
+-- By kind, from 0, an empty place: D, F, Hp, Hv, L, Lr, S, R, W, E, Fa, Di, Wi.
+-- All D, F and Hp cases act; any subset of Hv and of L; at most one among Lr, S and R together; at most one W, one E, one Fa, one Di, one
+-- Wi (SCOPE 4.2).
 abbrev pub classes : List Class
 classes =
     Unknown
@@ -15,6 +16,7 @@ classes =
     ∷ Subset ∷ Subset
     ∷ OneOf 0 ∷ OneOf 0 ∷ OneOf 0
     ∷ OneOf 1 ∷ OneOf 2 ∷ OneOf 3
+    ∷ OneOf 4 ∷ OneOf 5
     ∷ []
 
 unfoldable pub classOf : ℕ → Class
@@ -29,10 +31,10 @@ unknown Unknown = true
 
 -- the number of groups (SCOPE 4.2), and of kinds with the empty place (SCOPE 2.3)
 abbrev pub groupCount : ℕ
-groupCount = 4
+groupCount = 6
 
 abbrev pub kindCount : ℕ
-kindCount = 12
+kindCount = 14
 
 -- Hp, whose cases may take the low factor (SCOPE 2.3, 4.3)
 abbrev pub permanentEarth : ℕ

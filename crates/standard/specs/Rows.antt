@@ -6,9 +6,13 @@ use lib.Dec.{eqb, leb}
 use lib.ListN.{getD, replicate}
 use Rattle.standard.specs.declared.Settings.{Settings}
 
--- a sheet's settings (SCOPE 2.2); those of a fresh sheet are method 1, live option 0, zone 0 (SCOPE 2.6)
+-- a sheet's settings (SCOPE 2.2): ice is 1 where the ice rows are switched on, and tag 01 switches them off; those of a fresh sheet are
+-- method 1, live option 0, zone 0 (SCOPE 2.6)
 abbrev pub settingsOf : (method live zone : ℕ) → Settings
-settingsOf method live zone = record { method = method; live = live; zone = zone }
+settingsOf method live zone = record { method = method; live = live; zone = zone; ice = 0 }
+
+abbrev pub switched : ℕ → Settings → Settings
+switched ice s = record { method = s .method; live = s .live; zone = s .zone; ice = ice }
 
 abbrev pub freshSettings : Settings
 freshSettings = settingsOf 1 0 0
@@ -22,7 +26,7 @@ pub data Live : Type 0 where
 pub data Roof : Type 0 where
   any snow : ℕ → Roof
 
--- a line of the table (SCOPE 3.1); only a flood row has a factor for Fa (SCOPE 3.4)
+-- a line of the table (SCOPE 3.1); only a flood row has a factor for Fa (SCOPE 3.4), only an ice row one for Di and Wi (SCOPE 3.8)
 pub record Line : Type 0 where
   pub dead : ℕ
   pub fluid : ℕ
@@ -32,9 +36,11 @@ pub record Line : Type 0 where
   pub quake : ℕ
   pub earth : ℕ
   pub flood : ℕ
+  pub ice : ℕ
+  pub icewind : ℕ
 
 abbrev pub line : ℕ → ℕ → Live → Roof → ℕ → ℕ → ℕ → Line
-line d fl l r w e h = record { dead = d; fluid = fl; live = l; roof = r; wind = w; quake = e; earth = h; flood = 0 }
+line d fl l r w e h = record { dead = d; fluid = fl; live = l; roof = r; wind = w; quake = e; earth = h; flood = 0; ice = 0; icewind = 0 }
 
 abbrev pub blank : Line
 blank = line 0 0 (num 0) (any 0) 0 0 0
@@ -77,7 +83,7 @@ allowableRow row = getD allowable (row - 21) blank
 -- a line with other factors for W, E and Fa (SCOPE 3.4)
 abbrev pub changed : ℕ → ℕ → ℕ → Line → Line
 changed w e fa l =
-    record { dead = l .dead; fluid = l .fluid; live = l .live; roof = l .roof; wind = w; quake = e; earth = l .earth; flood = fa }
+    record { dead = l .dead; fluid = l .fluid; live = l .live; roof = l .roof; wind = w; quake = e; earth = l .earth; flood = fa; ice = l .ice; icewind = l .icewind }
 
 -- with Fa and no E (SCOPE 3.4)
 abbrev pub flooded : ℕ → Line → Line
@@ -98,14 +104,43 @@ strengthFlood =
 abbrev pub allowableFlood : ℕ → List Line
 allowableFlood fa = map (λ row. flooded fa (allowableRow row)) (25 ∷ 26 ∷ 27 ∷ 28 ∷ 29 ∷ [])
 
--- rows 0 to 40; a number that no row has is blank (SCOPE 3.2 to 3.4)
+-- a line with another roof load, without W, and with Di and Wi (SCOPE 3.8)
+abbrev pub roofed : Roof → Line → Line
+roofed r l =
+    record { dead = l .dead; fluid = l .fluid; live = l .live; roof = r; wind = l .wind; quake = l .quake; earth = l .earth; flood = l .flood; ice = l .ice; icewind = l .icewind }
+
+abbrev pub calm : Line → Line
+calm l = changed 0 (l .quake) (l .flood) l
+
+abbrev pub iced : ℕ → ℕ → Line → Line
+iced di wi l =
+    record { dead = l .dead; fluid = l .fluid; live = l .live; roof = l .roof; wind = l .wind; quake = l .quake; earth = l .earth; flood = l .flood; ice = di; icewind = wi }
+
+-- Rows 13, 14 and 15 are rows 2, 5 and 7: in 13 the roof load gives way to Di and S, in 14 W and the roof load to Di, Wi and S, in 15 W to
+-- Di and Wi (SCOPE 3.8).
+abbrev pub strengthIce : List Line
+strengthIce =
+    iced 200 0 (roofed (snow 500) (strengthRow 2))
+    ∷ iced 1000 1000 (calm (roofed (snow 500) (strengthRow 5)))
+    ∷ iced 1000 1000 (calm (strengthRow 7))
+    ∷ []
+
+-- Row 41 is row 22 with Di, row 42 row 23 with Di, Wi and S for the roof load, row 43 row 29 with Di and Wi for W (SCOPE 3.8).
+abbrev pub allowableIce : List Line
+allowableIce =
+    iced 700 0 (allowableRow 22)
+    ∷ iced 700 700 (roofed (snow 1000) (allowableRow 23))
+    ∷ iced 700 700 (calm (allowableRow 29))
+    ∷ []
+
+-- rows 0 to 43; a number that no row has is blank (SCOPE 3.2 to 3.4, 3.8)
 abbrev pub lines : List Line
 lines =
     blank
-    ∷ (strength ++ (strengthFlood ++ (replicate 8 blank ++ (allowable ++ (allowableFlood 1500 ++ allowableFlood 750)))))
+    ∷ (strength ++ (strengthFlood ++ (strengthIce ++ (replicate 5 blank ++ (allowable ++ (allowableFlood 1500 ++ (allowableFlood 750 ++ allowableIce)))))))
 
 abbrev pub rowCount : ℕ
-rowCount = 41
+rowCount = 44
 
 -- what a column gives L (SCOPE 3.5), Lr and R, and S (SCOPE 3.1)
 abbrev pub liveFactor : Bool → Live → ℕ
@@ -120,7 +155,7 @@ abbrev pub snowFactor : Roof → ℕ
 snowFactor (any x) = x
 snowFactor (snow x) = x
 
--- the factors of a line by kind: none, D, F, Hp, Hv, L, Lr, S, R, W, E, Fa (SCOPE 3.1)
+-- the factors of a line by kind: none, D, F, Hp, Hv, L, Lr, S, R, W, E, Fa, Di, Wi (SCOPE 3.1)
 abbrev pub columns : Bool → Line → List ℕ
 columns halved l =
     0
@@ -129,6 +164,7 @@ columns halved l =
     ∷ liveFactor halved (l .live)
     ∷ roofFactor (l .roof) ∷ snowFactor (l .roof) ∷ roofFactor (l .roof)
     ∷ l .wind ∷ l .quake ∷ l .flood
+    ∷ l .ice ∷ l .icewind
     ∷ []
 
 -- the factor of a kind in a row (SCOPE 3.1)
@@ -160,8 +196,16 @@ unfoldable pub floodRows : Settings → List Span
 floodRows s =
     cond (eqb (s .method) 1) (byZone s (rowsTo 9 10) (rowsTo 11 12)) (cond (eqb (s .method) 2) (byZone s (rowsTo 31 35) (rowsTo 36 40)) [])
 
+-- some rows where the ice rows are switched on (SCOPE 3.8)
+abbrev pub byIce : Settings → Span → List Span
+byIce s span = cond (eqb (s .ice) 1) (span ∷ []) []
+
+-- ice rows are further rows too (SCOPE 3.8)
+unfoldable pub iceRows : Settings → List Span
+iceRows s = cond (eqb (s .method) 1) (byIce s (rowsTo 13 15)) (cond (eqb (s .method) 2) (byIce s (rowsTo 41 43)) [])
+
 unfoldable pub openRows : Settings → List Span
-openRows s = plainRows s ++ floodRows s
+openRows s = plainRows s ++ (floodRows s ++ iceRows s)
 
 -- a row is open where one of the spans has it (SCOPE 3.7)
 abbrev pub within : Span → ℕ → Bool

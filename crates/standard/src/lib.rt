@@ -1,11 +1,11 @@
 ghost use mathlib.Core.Path.{_≡_};
 ghost use Rattle.standard.specs.Kinds.{classOf};
-ghost use Rattle.standard.specs.Rows.{settingsOf, freshSettings, lowOf};
+ghost use Rattle.standard.specs.Rows.{settingsOf, switched, freshSettings, lowOf};
 
 // Kinds are numbered from 1, so that 0 is an empty place; rows are numbered as in docs/FIELDS.md.
-pub const KINDS: usize = 12;
+pub const KINDS: usize = 14;
 
-pub const ROWS: usize = 41;
+pub const ROWS: usize = 44;
 
 pub const CASES: usize = 32;
 
@@ -14,13 +14,28 @@ pub struct Settings {
     pub method: u8,
     pub live: u8,
     pub zone: u8,
+    pub ice: u8,
 }
 
 impl Settings {
     pub fn of(method: u8, live: u8, zone: u8) -> Settings
         ensures { λ r. ⌜ r ≡ settingsOf method live zone ⌝ }
     {
-        Settings { method, live, zone }
+        Settings {
+            method,
+            live,
+            zone,
+            ice: 0,
+        }
+    }
+
+    // The same with the ice rows switched on, at 1, or off.
+    pub fn switched(self, ice: u8) -> Settings
+        ensures { λ r. ⌜ r ≡ switched ice self ⌝ }
+    {
+        let mut s = self;
+        s.ice = ice;
+        s
     }
 }
 
@@ -53,7 +68,7 @@ pub fn class_of(kind: usize) -> Class
         1..=3 => Class::Always,
         4..=5 => Class::Subset,
         6..=8 => Class::OneOf(0),
-        9..=11 => Class::OneOf(kind - 8),
+        9..=13 => Class::OneOf(kind - 8),
         _ => Class::Unknown,
     }
 }

@@ -24,11 +24,11 @@ use Rattle.standard.specs.Combination.{caseCount}
 use Rattle.envelope.specs.Range.{effectMost}
 use Rattle.envelope.specs.Places.{Places, PlacesInRange}
 use Rattle.sums.specs.declared.Sides.{Sides}
-use Rattle.sums.specs.Sums.{partOf, alone, heldBy, heldOf, heldAt, among, sidesIn, sidesPut, SumsOf, Summed, SumsInRange}
+use Rattle.sums.specs.Sums.{sumCount, partOf, alone, heldBy, heldOf, heldAt, among, sidesIn, sidesPut, SumsOf, Summed, SumsInRange}
 use Rattle.sums.proofs.Held.{held-most}
 
 -- ---- the kinds
-pub no-kinds : (sums places : List ℕ) (e : ℕ → ℤ) → length sums ≡ 24 → SumsOf sums places e 1
+pub no-kinds : (sums places : List ℕ) (e : ℕ → ℤ) → length sums ≡ sumCount → SumsOf sums places e 1
 no-kinds sums places e l = record { long = l; held = λ j t p m _. absurd (omega arith) }
 
 -- a place that is neither of the two keeps what it holds

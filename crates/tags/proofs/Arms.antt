@@ -5,12 +5,12 @@ use mathlib.Core.Path.{_≡_, refl, sym, _∙_, ap}
 use mathlib.Core.List.{List}
 use Rattle.wire.specs.Bytes.{byteAt, wordAt, signed16}
 use Rattle.standard.specs.Rows.{settingsOf}
-use Rattle.refusals.specs.Refusals.{dueSettings, dueFillAt, dueEffectsAt, dueEmptyAt, dueCapacities, dueExtremes}
+use Rattle.refusals.specs.Refusals.{dueSettings, dueFillAt, dueEffectsAt, dueEmptyAt, dueCapacities, dueExtremes, dueSwitch}
 use Rattle.sheet.specs.declared.Sheet.{Sheet}
 use Rattle.sheet.specs.declared.Answered.{Answered}
 use Rattle.sheet.specs.declared.Answer.{Answer}
 use Rattle.sheet.specs.declared.Answer.the-variants as answer
-use Rattle.sheet.specs.Sheet.{fresh, withKind, withEffects, withCapacities}
+use Rattle.sheet.specs.Sheet.{fresh, withKind, withEffects, withCapacities, withSwitch}
 use Rattle.sheet.specs.Edits.{dueFill, dueEffects, dueEmpty, unlessRefused}
 use Rattle.sheet.specs.Looks.{extremesAt, utilisationAt, dueUtilisation, lookedExtremes, lookedUtilisation, unlessDue, edited}
 use Rattle.tags.specs.Run.{runOf}
@@ -50,3 +50,7 @@ module _ (s : Sheet) (b : List ℕ) {b0 : ℕ} (e0 : b0 ≡ byteAt b 0) where
   pub utilisation-arm : {a : Answer} → a ≡ unlessDue (dueUtilisation s b0) (answer.Utilisation (utilisationAt s b0)) → looked a ≡ runOf s 7 b
   unfolding runOf lookedUtilisation
   utilisation-arm h = ap looked h ∙ rw e0 (sym (utilisation-ran s b))
+
+  pub switch-arm : {a : Answered} → a ≡ edited (unlessRefused (dueSwitch b0) s (withSwitch s b0)) → a ≡ runOf s 8 b
+  unfolding runOf unlessRefused dueSwitch
+  switch-arm h = h ∙ rw e0

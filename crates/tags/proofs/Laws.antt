@@ -1,6 +1,6 @@
 -- The lines of the table of tags.
 -- Assumes nothing.
-use Prim.Native.Nat.{ℕ, zero, suc, _-_}
+use Prim.Native.Nat.{ℕ, zero, suc, _-_, _≤_}
 use mathlib.Core.Bool.{Bool, true, false, cond}
 use mathlib.Core.Path.{_≡_, refl, sym, ap, subst}
 use lib.Dec.{eqb}
@@ -10,13 +10,13 @@ use Rattle.wire.specs.Bytes.{byteAt, wordAt, signed16}
 use Rattle.standard.specs.Rows.{settingsOf}
 use Rattle.sheet.specs.declared.Sheet.{Sheet}
 use Rattle.sheet.specs.declared.Answered.{Answered}
-use Rattle.sheet.specs.Sheet.{fresh, withKind, withEffects, withCapacities}
-use Rattle.refusals.specs.Refusals.{firstDue, dueSettings, dueFillAt, dueEffectsAt, dueEmptyAt, dueCapacities, dueExtremes, dueUtilisationAt}
+use Rattle.sheet.specs.Sheet.{fresh, withKind, withEffects, withCapacities, withSwitch}
+use Rattle.refusals.specs.Refusals.{firstDue, dueSettings, dueFillAt, dueEffectsAt, dueEmptyAt, dueCapacities, dueExtremes, dueUtilisationAt, dueSwitch}
 use Rattle.sheet.specs.Edits.{dueFill, dueEffects, dueEmpty, unlessRefused}
 use Rattle.sheet.specs.Looks.{lookedExtremes, lookedUtilisation, edited}
 use Rattle.refusals.proofs.Fits.{inside}
 use native.Mathlib.Omega.{arith}
-use Rattle.tags.specs.Tags.{unknownTag, extremesTag, utilisationTag, tags}
+use Rattle.tags.specs.Tags.{unknownTag, extremesTag, utilisationTag, switchTag, tags}
 use Rattle.tags.specs.Run.{ranBy, runOf}
 
 -- a look leaves the sheet, refused or not
@@ -46,23 +46,34 @@ module _ (P : Answered → Type 0) (s : Sheet) (tag : ℕ) (b : List ℕ) where
       P (edited (unlessRefused (dueEffects s b0 b1 (wordAt b 2) (wordAt b 4) (wordAt b 6)) s (withEffects s b0 b1 (signed16 (wordAt b 2)) (signed16 (wordAt b 4)) (signed16 (wordAt b 6))))) →
       P (edited (unlessRefused (dueEmpty s b0) s (withKind s b0 0))) →
       P (edited (unlessRefused (dueCapacities b0 (wordAt b 1) (wordAt b 3) (wordAt b 5)) s (withCapacities s b0 (wordAt b 1) (wordAt b 3) (wordAt b 5)))) →
-      P (lookedExtremes s b0 b1) → P (lookedUtilisation s b0) → P (runOf s tag b)
-  unfolding runOf unlessRefused dueSettings dueFillAt dueEffectsAt dueEmptyAt dueCapacities
-  run-by p1 p2 p3 p4 p5 p6 p7 = at (tag - 1)
+      P (lookedExtremes s b0 b1) → P (lookedUtilisation s b0) →
+      P (edited (unlessRefused (dueSwitch b0) s (withSwitch s b0))) → P (runOf s tag b)
+  unfolding runOf unlessRefused dueSettings dueFillAt dueEffectsAt dueEmptyAt dueCapacities dueSwitch
+  run-by p1 p2 p3 p4 p5 p6 p7 p8 = at (tag - 1)
     where
-      seventh : (k : ℕ) → P (ranBy (getD (utilisationTag ∷ []) k utilisationTag) s b)
-      seventh zero = subst P (sym (utilisation-ran s b)) p7
-      seventh (suc k) = subst P (sym (utilisation-ran s b)) p7
+      eighth : (k : ℕ) → P (ranBy (getD (switchTag ∷ []) k switchTag) s b)
+      eighth zero = p8
+      eighth (suc k) = p8
 
-      at : (k : ℕ) → P (ranBy (getD tags k utilisationTag) s b)
+      at : (k : ℕ) → P (ranBy (getD tags k switchTag) s b)
       at zero = p1
       at (suc zero) = p2
       at (suc (suc zero)) = p3
       at (suc (suc (suc zero))) = p4
       at (suc (suc (suc (suc zero)))) = p5
       at (suc (suc (suc (suc (suc zero))))) = subst P (sym (extremes-ran s b)) p6
-      at (suc (suc (suc (suc (suc (suc k)))))) = seventh k
+      at (suc (suc (suc (suc (suc (suc zero)))))) = subst P (sym (utilisation-ran s b)) p7
+      at (suc (suc (suc (suc (suc (suc (suc k))))))) = eighth k
+
+-- at least k and not k
+past : {n : ℕ} (k : ℕ) → k ≤ n → (n ≡ k → ⊥) → suc k ≤ n
+past k h f = omega arith
 
 -- the arm of the match that is left
-pub last-tag : (tag : ℕ) → unknownTag tag ≡ false → (tag ≡ 1 → ⊥) → (tag ≡ 2 → ⊥) → (tag ≡ 3 → ⊥) → (tag ≡ 4 → ⊥) → (tag ≡ 5 → ⊥) → (tag ≡ 6 → ⊥) → tag ≡ 7
-last-tag tag e n1 n2 n3 n4 n5 n6 = let k = inside tag 7 e in omega (arith, k .0, k .1)
+pub last-tag : (tag : ℕ) → unknownTag tag ≡ false → (tag ≡ 1 → ⊥) → (tag ≡ 2 → ⊥) → (tag ≡ 3 → ⊥) → (tag ≡ 4 → ⊥) → (tag ≡ 5 → ⊥) → (tag ≡ 6 → ⊥) → (tag ≡ 7 → ⊥) → tag ≡ 8
+last-tag tag e n1 n2 n3 n4 n5 n6 n7 =
+    let k = inside tag 8 e in
+    within (k .1) (past 7 (past 6 (past 5 (past 4 (past 3 (past 2 (past 1 (k .0) n1) n2) n3) n4) n5) n6) n7)
+  where
+    within : tag ≤ 8 → 8 ≤ tag → tag ≡ 8
+    within a b = omega arith

@@ -38,9 +38,10 @@ pub fn run(rest: Rest, effects: &mut Effects, tag: u8, body: &[u8]) -> AnsweredR
             let answer = rest.look_extremes(effects, b0, b1);
             AnsweredRest { answer, rest }
         }
-        _ => {
+        7 => {
             let answer = rest.look_utilisation(effects, b0);
             AnsweredRest { answer, rest }
         }
+        _ => rest.switch_ice(b0),
     }
 }

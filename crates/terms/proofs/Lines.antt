@@ -16,7 +16,7 @@ use Rattle.standard.specs.declared.Settings.{Settings}
 use Rattle.standard.specs.Kinds.{classOf, kindCount, groupCount}
 use Rattle.standard.specs.Rows.{factorOf}
 use Rattle.optimum.specs.Row.{lowerOf, greatestOf, leastOf, groupOf}
-use Rattle.terms.specs.Value.{termsBy, ownOf, valueOf}
+use Rattle.terms.specs.Value.{termsBy, ownOf, singlesOf, valueOf}
 
 -- over the kinds, from what is held of each above zero and below
 abbrev pub byGroup : Settings → ℕ → (ℕ → ℕ) → ℕ → ℕ → ℕ
@@ -65,14 +65,17 @@ times-max f a b = ltb-cases a b (λ _. f * max a b ≡ max (f * a) (f * b)) (λ 
     down-to : (a b : ℕ) → b ≤ a → f * max a b ≡ max (f * a) (f * b)
     down-to a b l = let m : max a b ≡ a = omega arith in let k : f * b ≤ f * a = mul-le-mul-left f l in rw m (omega arith)
 
+joined : {own line groups : ℕ} (m a b c d e : ℕ) → own ≡ line → groups ≡ m + a + b + c + d + e → own + groups ≡ line + m + a + b + c + d + e
+joined m a b c d e h k = omega (arith, h, k)
+
 -- three among kinds that give nothing
-amid : (z a b c : ℕ) → z ≡ 0 → max (max (max (max (max (max z a) b) c) 0) 0) 0 ≡ max (max a b) c
+amid : (z a b c : ℕ) → z ≡ 0 → max (max (max (max (max (max (max (max z a) b) c) 0) 0) 0) 0) 0 ≡ max (max a b) c
 amid z a b c e = after (max (max (max z a) b) c) ∙ ap (λ (x : ℕ). max (max x b) c) before
   where
     before : max z a ≡ a
     before = omega arith
 
-    after : (x : ℕ) → max (max (max x 0) 0) 0 ≡ x
+    after : (x : ℕ) → max (max (max (max (max x 0) 0) 0) 0) 0 ≡ x
     after x = omega arith
 
 module _ (s : Settings) (row : ℕ) (u d : ℕ → ℕ) where
@@ -88,7 +91,7 @@ module _ (s : Settings) (row : ℕ) (u d : ℕ → ℕ) where
   unfolding factorOf
   roof-one = refl
 
-  loss-is : lossBy s row d ≡ 0 + f 1 * d 1 + f 2 * d 2 + f 3 * 0 + lowerOf s row 3 * d 3 + f 5 * 0 + f 9 * 0 + f 10 * 0 + f 11 * 0
+  loss-is : lossBy s row d ≡ 0 + f 1 * d 1 + f 2 * d 2 + f 3 * 0 + lowerOf s row 3 * d 3 + f 5 * 0 + f 9 * 0 + f 10 * 0 + f 11 * 0 + f 12 * 0 + f 13 * 0
   unfolding sum leastOf lowerOf classOf
   loss-is = omega arith
 
@@ -124,31 +127,35 @@ module _ (s : Settings) (row : ℕ) (u d : ℕ → ℕ) where
   unfolding groupOf classOf
   flood-is = one-kind 3 11 (omega arith) refl
 
+  ice-is : most kindCount (byGroup s row u 4) ≡ f 12 * u 12
+  unfolding groupOf classOf
+  ice-is = one-kind 4 12 (omega arith) refl
+
+  icewind-is : most kindCount (byGroup s row u 5) ≡ f 13 * u 13
+  unfolding groupOf classOf
+  icewind-is = one-kind 5 13 (omega arith) refl
+
   groups-are : sum groupCount (λ g. most kindCount (byGroup s row u g))
       ≡ most kindCount (byGroup s row u 0) + most kindCount (byGroup s row u 1) + most kindCount (byGroup s row u 2) + most kindCount (byGroup s row u 3)
+      + most kindCount (byGroup s row u 4) + most kindCount (byGroup s row u 5)
   unfolding sum
   groups-are = omega arith
 
+  own-line : sum kindCount (λ j. greatestOf s row j * u j) ≡ 0 + f 1 * u 1 + f 2 * u 2 + f 3 * (u 3 + u 4) + lowerOf s row 3 * 0 + f 5 * u 5
+  own-line = omega (arith, own-is, ap (λ (x : ℕ). x * u 4) earth-one)
+
+  roof-line : most kindCount (byGroup s row u 0) ≡ max (0 + f 6 * max (u 6) (u 8)) (0 + f 7 * u 7)
+  roof-line = omega (arith, roof-is, times-max (f 6) (u 6) (u 8), ap (λ (x : ℕ). x * u 8) roof-one)
+
   gain-is : gainBy s row u ≡
       0 + f 1 * u 1 + f 2 * u 2 + f 3 * (u 3 + u 4) + lowerOf s row 3 * 0 + f 5 * u 5 + max (0 + f 6 * max (u 6) (u 8)) (0 + f 7 * u 7)
-      + f 9 * u 9 + f 10 * u 10 + f 11 * u 11
+      + f 9 * u 9 + f 10 * u 10 + f 11 * u 11 + f 12 * u 12 + f 13 * u 13
   gain-is =
-      omega (
-        arith,
-        own-is,
-        groups-are,
-        roof-is,
-        wind-is,
-        quake-is,
-        flood-is,
-        times-max (f 6) (u 6) (u 8),
-        ap (λ (x : ℕ). x * u 4) earth-one,
-        ap (λ (x : ℕ). x * u 8) roof-one,
-      )
+      joined (max (0 + f 6 * max (u 6) (u 8)) (0 + f 7 * u 7)) (f 9 * u 9) (f 10 * u 10) (f 11 * u 11) (f 12 * u 12) (f 13 * u 13) own-line (groups-are ∙ (λ i. roof-line i + wind-is i + quake-is i + flood-is i + ice-is i + icewind-is i))
 
   -- the line, term by term
   pub by-terms : valueOf s row (termsBy u d) ≡ pos (gainBy s row u) -ℤ pos (lossBy s row d)
-  unfolding valueOf ownOf termsBy
+  unfolding valueOf ownOf singlesOf termsBy
   by-terms =
       let z1 : ℤ = pos 0 +ℤ pos (f 1) *ℤ (pos (u 1) +ℤ negℤ (pos (d 1))) in
       let g1 : ℕ = 0 + f 1 * u 1 in
@@ -187,4 +194,12 @@ module _ (s : Settings) (row : ℕ) (u d : ℕ → ℕ) where
       let g9 : ℕ = g8 + f 11 * u 11 in
       let l9 : ℕ = l8 + f 11 * 0 in
       let h9 : Is z9 g9 l9 = with-term (z8) (pos (u 11)) (f 11) (g8) (l8) (u 11) (0) (h8) (just (u 11)) in
-      is-less z9 g9 l9 h9 ∙ sym (λ i. pos (gain-is i) -ℤ pos (loss-is i))
+      let z10 : ℤ = z9 +ℤ pos (f 12) *ℤ (pos (u 12)) in
+      let g10 : ℕ = g9 + f 12 * u 12 in
+      let l10 : ℕ = l9 + f 12 * 0 in
+      let h10 : Is z10 g10 l10 = with-term (z9) (pos (u 12)) (f 12) (g9) (l9) (u 12) (0) (h9) (just (u 12)) in
+      let z11 : ℤ = z10 +ℤ pos (f 13) *ℤ (pos (u 13)) in
+      let g11 : ℕ = g10 + f 13 * u 13 in
+      let l11 : ℕ = l10 + f 13 * 0 in
+      let h11 : Is z11 g11 l11 = with-term (z10) (pos (u 13)) (f 13) (g10) (l10) (u 13) (0) (h10) (just (u 13)) in
+      is-less z11 g11 l11 h11 ∙ sym (λ i. pos (gain-is i) -ℤ pos (loss-is i))

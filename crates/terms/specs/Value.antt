@@ -1,4 +1,4 @@
--- A row's value from ten terms.
+-- A row's value from its terms.
 use Prim.Native.Nat.{ℕ, _+_, _*_, _≤_, max}
 use mathlib.Core.List.{List}
 use mathlib.Core.Path.{_≡_}
@@ -25,16 +25,21 @@ termsBy u d =
       wind = pos (u 9);
       quake = pos (u 10);
       flood = pos (u 11);
+      ice = pos (u 12);
+      icewind = pos (u 13);
     }
 
 abbrev pub termsOf : List ℕ → (over under : ℕ) → Terms
 termsOf sums over under = termsBy (λ j. heldAt sums j over) (λ j. heldAt sums j under)
 
 -- the sizes of the terms, all together: each case is counted once on each side
+abbrev pub singlesSize : Terms → ℕ
+singlesSize t = natAbs (t .wind) + natAbs (t .quake) + natAbs (t .flood) + natAbs (t .ice) + natAbs (t .icewind)
+
 abbrev pub sizeOf : Terms → ℕ
 sizeOf t =
     natAbs (t .dead) + natAbs (t .fluid) + natAbs (t .earth) + natAbs (t .lowered) + natAbs (t .live)
-    + natAbs (t .roof) + natAbs (t .snow) + natAbs (t .wind) + natAbs (t .quake) + natAbs (t .flood)
+    + natAbs (t .roof) + natAbs (t .snow) + singlesSize t
 
 pub record TermsInRange (t : Terms) : Type 0 where
   pub small : sizeOf t ≤ 64 * effectMost
@@ -55,8 +60,12 @@ ownOf s row t =
     pos 0 +ℤ pos (factorOf s row 1) *ℤ t .dead +ℤ pos (factorOf s row 2) *ℤ t .fluid +ℤ pos (factorOf s row 3) *ℤ t .earth
     +ℤ pos (lowerOf s row 3) *ℤ t .lowered +ℤ pos (factorOf s row 5) *ℤ t .live
 
+-- with the groups of one kind each
+unfoldable pub singlesOf : Settings → ℕ → ℤ → Terms → ℤ
+singlesOf s row total t =
+    total +ℤ pos (factorOf s row 9) *ℤ t .wind +ℤ pos (factorOf s row 10) *ℤ t .quake +ℤ pos (factorOf s row 11) *ℤ t .flood
+    +ℤ pos (factorOf s row 12) *ℤ t .ice +ℤ pos (factorOf s row 13) *ℤ t .icewind
+
 unfoldable pub valueOf : Settings → ℕ → Terms → ℤ
 valueOf s row t =
-    ownOf s row t
-    +ℤ pos (max (up (pos 0 +ℤ pos (factorOf s row 6) *ℤ t .roof)) (up (pos 0 +ℤ pos (factorOf s row 7) *ℤ t .snow)))
-    +ℤ pos (factorOf s row 9) *ℤ t .wind +ℤ pos (factorOf s row 10) *ℤ t .quake +ℤ pos (factorOf s row 11) *ℤ t .flood
+    singlesOf s row (ownOf s row t +ℤ pos (max (up (pos 0 +ℤ pos (factorOf s row 6) *ℤ t .roof)) (up (pos 0 +ℤ pos (factorOf s row 7) *ℤ t .snow)))) t

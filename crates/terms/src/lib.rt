@@ -6,12 +6,12 @@ ghost use Rattle.standard.specs.Rows.{rowCount, factorOf};
 ghost use Rattle.standard.specs.Columns.{rowTable};
 ghost use Rattle.optimum.specs.Row.{lowerOf};
 ghost use Rattle.sums.specs.Sums.{heldAt, SumsInRange};
-ghost use Rattle.terms.specs.Value.{factorMost, Gained, termsOf, TermsInRange, ownOf, valueOf};
+ghost use Rattle.terms.specs.Value.{factorMost, Gained, termsOf, TermsInRange, ownOf, singlesSize, singlesOf, valueOf};
 use rows::RowTable;
 use standard::Settings;
 
 // What the factors of a row multiply: the cases of D, of F, of Hp and Hv, of Hp at the low factor, of L, then the greatest
-// of Lr and R, of S, of W, of E and of Fa.
+// of Lr and R, of S, of W, of E, of Fa, of Di and of Wi.
 pub struct Terms {
     pub dead: i64,
     pub fluid: i64,
@@ -23,6 +23,8 @@ pub struct Terms {
     pub wind: i64,
     pub quake: i64,
     pub flood: i64,
+    pub ice: i64,
+    pub icewind: i64,
 }
 
 // What the sums hold of a kind on a side.
@@ -60,6 +62,8 @@ pub fn terms_of(sums: &[u64], over: usize, under: usize) -> Terms
         wind: held(sums, 9, over),
         quake: held(sums, 10, over),
         flood: held(sums, 11, over),
+        ice: held(sums, 12, over),
+        icewind: held(sums, 13, over),
     }
 }
 
@@ -100,6 +104,18 @@ fn own_value(table: &RowTable, s: Settings, row: usize, t: Terms) -> i64
     with_term(lowered, table, s, row, 5, t.live)
 }
 
+// What the groups of one kind each add in a row.
+fn with_singles(total: i64, table: &RowTable, s: Settings, row: usize, t: Terms) -> i64
+    requires { ⌜ (row < rowCount) × (now table ≡ rowTable) × (natAbs total + factorMost * singlesSize t < 2 ^ 63) ⌝ }
+    ensures { λ r. ⌜ r ≡ singlesOf s row total t ⌝ }
+{
+    let wind = with_term(total, table, s, row, 9, t.wind);
+    let quake = with_term(wind, table, s, row, 10, t.quake);
+    let flood = with_term(quake, table, s, row, 11, t.flood);
+    let ice = with_term(flood, table, s, row, 12, t.ice);
+    with_term(ice, table, s, row, 13, t.icewind)
+}
+
 // The value of a row: the line as the standard writes it.
 pub fn value_of(table: &RowTable, s: Settings, row: usize, t: Terms) -> i64
     requires { ⌜ (row < rowCount) × (now table ≡ rowTable) × TermsInRange t ⌝ }
@@ -109,7 +125,5 @@ pub fn value_of(table: &RowTable, s: Settings, row: usize, t: Terms) -> i64
     let roof = with_term(0, table, s, row, 6, t.roof);
     let snow = with_term(0, table, s, row, 7, t.snow);
     let roofed = integers::added(own, integers::greater(roof, snow));
-    let wind = with_term(roofed, table, s, row, 9, t.wind);
-    let quake = with_term(wind, table, s, row, 10, t.quake);
-    with_term(quake, table, s, row, 11, t.flood)
+    with_singles(roofed, table, s, row, t)
 }

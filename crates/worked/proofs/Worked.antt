@@ -14,7 +14,7 @@ use Rattle.integers.proofs.Tests.{and-left, and-right}
 use Rattle.standard.specs.declared.Settings.{Settings}
 use Rattle.standard.specs.declared.Capacities.{Capacities}
 use Rattle.standard.specs.Kinds.{classOf}
-use Rattle.standard.specs.Rows.{factorOf, lowOf, plainRows, floodRows, openRows}
+use Rattle.standard.specs.Rows.{factorOf, lowOf, plainRows, floodRows, iceRows, openRows}
 use Rattle.standard.specs.Combination.{caseCount, denominatorOf}
 use Rattle.standard.specs.Governing.{Maximum, Minimum, Utilisation}
 use Rattle.optimum.specs.Row.{lowerOf, leastOf, greatestOf, groupOf, rowMaximum}
@@ -139,7 +139,7 @@ each-holds (x ∷ xs) t =
     )
 
 table-checks : T (checks worked)
-unfolding checks fair known meets same alike extremeIn governingOf bestOf bestOver bestAmong bestFrom rowMaximum greatestOf leastOf lowerOf groupOf classOf factorOf lowOf plainRows floodRows openRows patternOf peakOf utilisedOf denominatorOf sum most
+unfolding checks fair known meets same alike extremeIn governingOf bestOf bestOver bestAmong bestFrom rowMaximum greatestOf leastOf lowerOf groupOf classOf factorOf lowOf plainRows floodRows iceRows openRows patternOf peakOf utilisedOf denominatorOf sum most
 table-checks = tt
 
 pub worked-by-hand : WorkedByHand

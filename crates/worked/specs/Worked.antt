@@ -7,6 +7,7 @@ use mathlib.Core.Path.{_≡_}
 use lib.Dec.{eqb}
 use lib.IntN.{ℤ, pos, negℤ}
 use Rattle.standard.specs.declared.Settings.{Settings}
+use Rattle.standard.specs.Rows.{settingsOf, switched}
 use Rattle.standard.specs.declared.Capacities.{Capacities}
 use Rattle.standard.specs.Combination.{Combination}
 use Rattle.standard.specs.Governing.{Maximum, Minimum, Utilisation}
@@ -64,8 +65,18 @@ E = 10
 abbrev pub Fa : ℕ
 Fa = 11
 
+abbrev pub Di : ℕ
+Di = 12
+
+abbrev pub Wi : ℕ
+Wi = 13
+
 abbrev pub frame : (method live zone : ℕ) → List ℕ → List ℤ → Frame
-frame method live zone kinds effects = record { settings = record { method = method; live = live; zone = zone }; kinds = kinds; effects = effects }
+frame method live zone kinds effects = record { settings = settingsOf method live zone; kinds = kinds; effects = effects }
+
+-- with the ice rows switched on
+abbrev pub icy : Frame → Frame
+icy f = record { settings = switched 1 (f .settings); kinds = f .kinds; effects = f .effects }
 
 abbrev pub minus : ℕ → ℤ
 minus n = negℤ (pos n)
@@ -118,6 +129,23 @@ worked =
     -- flood rows of method 2: no E beside Fa, and the factor of zone 2
     ∷ (frame 2 0 1 (E ∷ Fa ∷ []) (pos 100 ∷ pos 100 ∷ []) says maximum (pos 150000))
     ∷ (frame 2 0 2 (Fa ∷ []) (pos 100 ∷ []) says maximum (pos 75000))
+    -- ice rows: none while they are off; one governs in each method; the plain rows remain, and no row has both ice and flood
+    ∷ (frame 1 0 0 (Di ∷ Wi ∷ []) (pos 100 ∷ pos 100 ∷ []) says maximum (pos 0))
+    ∷ (icy (frame 1 0 0 (Di ∷ Wi ∷ []) (pos 100 ∷ pos 100 ∷ [])) says maximumInRow (pos 200000) 14)
+    ∷ (icy (frame 2 0 0 (Di ∷ Wi ∷ []) (pos 100 ∷ pos 100 ∷ [])) says maximumInRow (pos 140000) 42)
+    ∷ (icy (frame 1 0 0 (W ∷ Di ∷ []) (pos 200 ∷ pos 100 ∷ [])) says maximum (pos 200000))
+    ∷ (icy (frame 1 0 1 (Fa ∷ Di ∷ []) (pos 100 ∷ pos 100 ∷ [])) says maximum (pos 200000))
+    -- S for the whole roof load; at most one Di, one Wi
+    ∷ (icy (frame 1 0 0 (R ∷ Di ∷ []) (pos 10 ∷ pos 100 ∷ [])) says maximum (pos 100000))
+    ∷ (icy (frame 1 0 0 (S ∷ Di ∷ []) (pos 10 ∷ pos 100 ∷ [])) says maximumInRow (pos 105000) 14)
+    ∷ (icy (frame 2 0 0 (R ∷ Di ∷ []) (pos 10 ∷ pos 100 ∷ [])) says maximum (pos 70000))
+    ∷ (icy (frame 1 0 0 (Di ∷ Di ∷ []) (pos 100 ∷ pos 100 ∷ [])) says maximum (pos 100000))
+    ∷ (icy (frame 1 0 0 (Wi ∷ Wi ∷ []) (pos 100 ∷ pos 100 ∷ [])) says maximum (pos 100000))
+    -- the live option reaches row 14 and leaves row 13; row 41 has no Wi
+    ∷ (icy (frame 1 0 0 (L ∷ Di ∷ Wi ∷ []) (pos 100 ∷ pos 100 ∷ pos 100 ∷ [])) says maximumInRow (pos 300000) 14)
+    ∷ (icy (frame 1 1 0 (L ∷ Di ∷ Wi ∷ []) (pos 100 ∷ pos 100 ∷ pos 100 ∷ [])) says maximumInRow (pos 250000) 14)
+    ∷ (icy (frame 1 1 0 (L ∷ Di ∷ []) (pos 100 ∷ pos 10 ∷ [])) says maximumInRow (pos 162000) 13)
+    ∷ (icy (frame 2 0 0 (L ∷ Wi ∷ []) (pos 200 ∷ pos 100 ∷ [])) says maximum (pos 200000))
     ∷ []
 
 abbrev pub All : List Entry → Type 0

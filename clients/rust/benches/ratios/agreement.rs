@@ -23,14 +23,15 @@ struct Compared {
     refusals: BTreeSet<u8>,
 }
 
-/// Compares on sheets of every method, live option and zone with 0 to 32 places filled, and prints how much was compared.
+/// Compares on sheets of every method, live option and zone, without ice and with it, with 0 to 32 places filled, and prints how much
+/// was compared.
 ///
 /// # Panics
 ///
 /// Where the bytes differ.
 pub fn report() {
     let mut compared = Compared::default();
-    for settings in 0..12 {
+    for settings in 0..24 {
         for places in 0..=32 {
             for reach in REACHES {
                 compared.sheet(settings, places, reach);
@@ -40,7 +41,7 @@ pub fn report() {
     assert_eq!(compared.refusals, (1..=14).collect(), "not every refusal");
     println!(
         "- Compared before the timing: {} fields, {} of them 06 and 07 answered, on {} sheets of every method, live option and zone, \
-         with every refusal. The bytes are the same.",
+         without ice and with it, with every refusal. The bytes are the same.",
         compared.fields, compared.looks, compared.sheets
     );
 }
@@ -159,11 +160,12 @@ impl List {
 
     /// Fields that make a sheet: places spread over the 32, of any kinds, and capacities at three stations in four.
     fn sheet(&mut self, settings: u8, places: u8) {
-        self.push(1, &[1 + settings % 2, settings / 2 % 2, settings / 4]);
+        self.push(1, &[1 + settings % 2, settings / 2 % 2, settings / 4 % 3]);
+        self.push(8, &[settings / 12]);
         let (first, step) = (self.below(32), 2 * self.below(16) + 1);
         for i in 0..places {
             let case = first.wrapping_add(i.wrapping_mul(step)) % 32;
-            let kind = 1 + self.below(11);
+            let kind = 1 + self.below(13);
             self.push(2, &[case, kind]);
             for station in 0..16 {
                 self.effects(case, station, 0);
@@ -190,9 +192,9 @@ impl List {
     fn fields(&mut self, count: usize) {
         for _ in 0..count {
             let (case, station) = (self.below(33), self.below(17));
-            match self.below(16) {
+            match self.below(17) {
                 0..2 => {
-                    let kind = self.below(13);
+                    let kind = self.below(15);
                     self.push(2, &[case, kind]);
                 }
                 2..7 => self.effects(case, station, 20),
@@ -204,6 +206,10 @@ impl List {
                 }
                 13 => self.push(7, &[station]),
                 14 => self.any(),
+                15 => {
+                    let ice = self.below(3);
+                    self.push(8, &[ice]);
+                }
                 _ => {
                     let settings = [(); 3].map(|_| self.below(6));
                     self.push(1, &settings);
@@ -214,7 +220,7 @@ impl List {
 
     /// Any tag with any body.
     fn any(&mut self) {
-        let (tag, len) = (self.below(10), self.below(12));
+        let (tag, len) = (self.below(11), self.below(12));
         let body: Vec<_> = (0..len).map(|_| self.below(256)).collect();
         self.push(tag, &body);
     }

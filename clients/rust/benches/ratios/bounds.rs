@@ -13,18 +13,18 @@ pub struct Counted {
 
 /// The bounds are the counts of the library as it is; they are set here alone.
 pub const LISTS: [Counted; 12] = [
-    counted("03", 1, 8, 344),
-    counted("03", 1, 32, 344),
-    counted("02/04", 1, 8, 346),
-    counted("02/04", 1, 32, 346),
-    counted("06", 1, 8, 1596),
-    counted("06", 1, 32, 2305),
-    counted("06", 2, 8, 1596),
-    counted("06", 2, 32, 2340),
-    counted("07", 1, 8, 2780),
-    counted("07", 1, 32, 4056),
-    counted("07", 2, 8, 2873),
-    counted("07", 2, 32, 4207),
+    counted("03", 1, 8, 299),
+    counted("03", 1, 32, 299),
+    counted("02/04", 1, 8, 304),
+    counted("02/04", 1, 32, 304),
+    counted("06", 1, 8, 1642),
+    counted("06", 1, 32, 2351),
+    counted("06", 2, 8, 1644),
+    counted("06", 2, 32, 2388),
+    counted("07", 1, 8, 2936),
+    counted("07", 1, 32, 4202),
+    counted("07", 2, 8, 3037),
+    counted("07", 2, 32, 4355),
 ];
 
 const fn counted(field: &'static str, method: u8, places: u8, bound: u32) -> Counted {

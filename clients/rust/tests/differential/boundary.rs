@@ -5,7 +5,7 @@ use frames::raw::{frames_answer, frames_count, frames_run, Ran};
 use crate::compare;
 use crate::lists::field;
 use crate::random::Random;
-use crate::reference::{self, fields, Sheet, LONGEST_ANSWER, LONGEST_SAVED};
+use crate::reference::{self, fields, Sheet, LONGEST_ANSWER, SAVED_ROOM};
 use crate::shrink::hexadecimal;
 
 type Check = Result<(), String>;
@@ -139,7 +139,7 @@ fn check_run(state: &[u8], input: &[u8], output_length: usize, saved_length: usi
 /// Compares `frames_answer` with the reference, whatever is due.
 fn check_answer(state: &[u8], input: &[u8], output_length: usize) -> Check {
     let called = call_answer(state, input, output_length);
-    match reference::start(state, input, output_length, LONGEST_SAVED) {
+    match reference::start(state, input, output_length, SAVED_ROOM) {
         Ok(start) => require_answers(&called, &start, input, false),
         Err(number) => require_refused(&called, number),
     }
@@ -158,20 +158,20 @@ fn shown(state: &[u8]) -> String {
 
 /// The answers of the library to a list on a fresh sheet, for a report.
 pub fn answers(input: &[u8]) -> Vec<u8> {
-    let mut called = call_run(&[], input, output_length(input), LONGEST_SAVED);
+    let mut called = call_run(&[], input, output_length(input), SAVED_ROOM);
     called.output.truncate(called.written);
     called.output
 }
 
 /// A list on a fresh sheet, with room left in both buffers.
 pub fn check_list(input: &[u8]) -> Check {
-    check_run(&[], input, output_length(input) + 50, LONGEST_SAVED + 20)
+    check_run(&[], input, output_length(input) + 50, SAVED_ROOM + 20)
 }
 
 /// `frames_answer` gives what `frames_run` gives, and `frames_count` the number of answers.
 pub fn check_answer_and_count(input: &[u8]) -> Check {
     let length = output_length(input) + 50;
-    let run = call_run(&[], input, length, LONGEST_SAVED);
+    let run = call_run(&[], input, length, SAVED_ROOM);
     let answer = call_answer(&[], input, length);
     require((answer.refusal, answer.saved) == (0, 0), || {
         format!(
@@ -202,7 +202,7 @@ pub fn check_chain(input: &[u8], seed: u64) -> Check {
     let (mut state, mut answers, mut from) = (Vec::new(), Vec::<u8>::new(), 0);
     for cut in cuts {
         let piece = fields[from..cut].concat();
-        let called = call_run(&state, &piece, output_length(&piece), LONGEST_SAVED);
+        let called = call_run(&state, &piece, output_length(&piece), SAVED_ROOM);
         require(called.refusal == 0, || {
             format!("a piece of a chain was refused with {}", called.refusal)
         })?;
@@ -212,7 +212,7 @@ pub fn check_chain(input: &[u8], seed: u64) -> Check {
         state = called.saved_to[..called.saved].to_vec();
         from = cut;
     }
-    let whole = call_run(&[], input, output_length(input), LONGEST_SAVED);
+    let whole = call_run(&[], input, output_length(input), SAVED_ROOM);
     require(answers == whole.output[..whole.written], || {
         "a chain of runs answers differently from one run".into()
     })?;
@@ -257,7 +257,7 @@ pub fn check_states(list: &[u8], seed: u64) -> Result<u64, String> {
     let mut random = Random::new(seed);
     let start = random.below(fields(list).len() as u64 + 1) as usize;
     let input = fields(list)[start..].concat();
-    let (output, saved) = (output_length(&input) + 9, LONGEST_SAVED + 9);
+    let (output, saved) = (output_length(&input) + 9, SAVED_ROOM + 9);
     for state in good_states(list) {
         check_run(&state, &input, output, saved)?;
         check_answer(&state, &input, output)?;
@@ -279,8 +279,8 @@ pub fn check_buffers(list: &[u8], seed: u64) -> Result<u64, String> {
     let bad_state = doubtful_state(list, &mut random);
     let mut refused = 0;
     for state in [&[][..], &bad_state, &[0x7F, 0, 0]] {
-        let any = random.below(LONGEST_SAVED as u64) as usize;
-        for saved in [LONGEST_SAVED, LONGEST_SAVED - 1, any] {
+        let any = random.below(SAVED_ROOM as u64) as usize;
+        for saved in [SAVED_ROOM, SAVED_ROOM - 1, any] {
             for output in [exact, exact.saturating_sub(1)] {
                 check_run(state, list, output, saved)?;
                 check_answer(state, list, output)?;

@@ -16,96 +16,113 @@ pub const R: u8 = 8;
 pub const W: u8 = 9;
 pub const E: u8 = 10;
 pub const FA: u8 = 11;
+pub const DI: u8 = 12;
+pub const WI: u8 = 13;
 
 /// Kinds of which at most one case acts, group by group.
-pub const ONE_OF: [&[u8]; 4] = [&[LR, S, R], &[W], &[E], &[FA]];
+pub const ONE_OF: [&[u8]; 6] = [&[LR, S, R], &[W], &[E], &[FA], &[DI], &[WI]];
 
-/// Which cases the column "roof" of a row takes.
+/// What opens a row, besides its method.
 #[derive(Clone, Copy, PartialEq)]
-enum Roof {
-    Any,
-    SnowOnly,
+enum Opened {
+    Always,
+    InZone(u8),
+    WithIce,
 }
+
+use Opened::{Always, InZone, WithIce};
 
 /// A line of the standard: its load factors in thousandths, 0 being no factor.
 #[derive(Clone, Copy)]
 pub struct Row {
     pub number: u8,
-    dead: i64,
-    fluid: i64,
-    live: i64,
-    roof: i64,
-    roof_takes: Roof,
-    wind: i64,
-    earthquake: i64,
-    earth: i64,
-    flood: i64,
+    opened: Opened,
+    /// The columns of the table, with live option 0 until a sheet's is put in.
+    columns: [i64; 12],
 }
 
-/// A plain row from the columns D, F, L, roof, W, E, H, with live option 0.
-const fn row(number: u8, roof_takes: Roof, columns: [i64; 7]) -> Row {
-    let [dead, fluid, live, roof, wind, earthquake, earth] = columns;
+const fn row(number: u8, opened: Opened, columns: [i64; 12]) -> Row {
     Row {
         number,
-        dead,
-        fluid,
-        live,
-        roof,
-        roof_takes,
-        wind,
-        earthquake,
-        earth,
-        flood: 0,
+        opened,
+        columns,
     }
 }
 
 // SCOPE 3.2 to 3.4
 #[rustfmt::skip]
-const STRENGTH: [Row; 8] = [
-    //                       D     F     L  roof     W     E     H
-    row(1, Roof::Any,      [1400, 1400,    0,    0,    0,    0,    0]),
-    row(2, Roof::Any,      [1200, 1200, 1600,  500,    0,    0, 1600]),
-    row(3, Roof::Any,      [1200, 1200, 1000, 1600,    0,    0, 1600]),
-    row(4, Roof::Any,      [1200, 1200,    0, 1600,  500,    0, 1600]),
-    row(5, Roof::Any,      [1200, 1200, 1000,  500, 1000,    0, 1600]),
-    row(6, Roof::SnowOnly, [1200, 1200, 1000,  200,    0, 1000, 1600]),
-    row(7, Roof::Any,      [ 900,    0,    0,    0, 1000,    0, 1600]),
-    row(8, Roof::Any,      [ 900,  900,    0,    0,    0, 1000, 1600]),
-];
-
-#[rustfmt::skip]
-const ALLOWABLE: [Row; 10] = [
-    //                        D     F     L  roof     W     E     H
-    row(21, Roof::Any,      [1000, 1000,    0,    0,    0,    0,    0]),
-    row(22, Roof::Any,      [1000, 1000, 1000,    0,    0,    0, 1000]),
-    row(23, Roof::Any,      [1000, 1000,    0, 1000,    0,    0, 1000]),
-    row(24, Roof::Any,      [1000, 1000,  750,  750,    0,    0, 1000]),
-    row(25, Roof::Any,      [1000, 1000,    0,    0,  600,    0, 1000]),
-    row(26, Roof::Any,      [1000, 1000,    0,    0,    0,  700, 1000]),
-    row(27, Roof::Any,      [1000, 1000,  750,  750,  450,    0, 1000]),
-    row(28, Roof::SnowOnly, [1000, 1000,  750,  750,    0,  525, 1000]),
-    row(29, Roof::Any,      [ 600,    0,    0,    0,  600,    0, 1000]),
-    row(30, Roof::Any,      [ 600,  600,    0,    0,    0,  700, 1000]),
+const ROWS: [Row; 38] = [
+    //                     D     F     H     L    Lr     S     R     W     E    Fa    Di    Wi
+    row( 1, Always,    [1400, 1400,    0,    0,    0,    0,    0,    0,    0,    0,    0,    0]),
+    row( 2, Always,    [1200, 1200, 1600, 1600,  500,  500,  500,    0,    0,    0,    0,    0]),
+    row( 3, Always,    [1200, 1200, 1600, 1000, 1600, 1600, 1600,    0,    0,    0,    0,    0]),
+    row( 4, Always,    [1200, 1200, 1600,    0, 1600, 1600, 1600,  500,    0,    0,    0,    0]),
+    row( 5, Always,    [1200, 1200, 1600, 1000,  500,  500,  500, 1000,    0,    0,    0,    0]),
+    row( 6, Always,    [1200, 1200, 1600, 1000,    0,  200,    0,    0, 1000,    0,    0,    0]),
+    row( 7, Always,    [ 900,    0, 1600,    0,    0,    0,    0, 1000,    0,    0,    0,    0]),
+    row( 8, Always,    [ 900,  900, 1600,    0,    0,    0,    0,    0, 1000,    0,    0,    0]),
+    row( 9, InZone(1), [1200, 1200, 1600, 1000,  500,  500,  500, 1000,    0, 2000,    0,    0]),
+    row(10, InZone(1), [ 900,    0, 1600,    0,    0,    0,    0, 1000,    0, 2000,    0,    0]),
+    row(11, InZone(2), [1200, 1200, 1600, 1000,  500,  500,  500,  500,    0, 1000,    0,    0]),
+    row(12, InZone(2), [ 900,    0, 1600,    0,    0,    0,    0,  500,    0, 1000,    0,    0]),
+    row(13, WithIce,   [1200, 1200, 1600, 1600,    0,  500,    0,    0,    0,    0,  200,    0]),
+    row(14, WithIce,   [1200, 1200, 1600, 1000,    0,  500,    0,    0,    0,    0, 1000, 1000]),
+    row(15, WithIce,   [ 900,    0, 1600,    0,    0,    0,    0,    0,    0,    0, 1000, 1000]),
+    row(21, Always,    [1000, 1000,    0,    0,    0,    0,    0,    0,    0,    0,    0,    0]),
+    row(22, Always,    [1000, 1000, 1000, 1000,    0,    0,    0,    0,    0,    0,    0,    0]),
+    row(23, Always,    [1000, 1000, 1000,    0, 1000, 1000, 1000,    0,    0,    0,    0,    0]),
+    row(24, Always,    [1000, 1000, 1000,  750,  750,  750,  750,    0,    0,    0,    0,    0]),
+    row(25, Always,    [1000, 1000, 1000,    0,    0,    0,    0,  600,    0,    0,    0,    0]),
+    row(26, Always,    [1000, 1000, 1000,    0,    0,    0,    0,    0,  700,    0,    0,    0]),
+    row(27, Always,    [1000, 1000, 1000,  750,  750,  750,  750,  450,    0,    0,    0,    0]),
+    row(28, Always,    [1000, 1000, 1000,  750,    0,  750,    0,    0,  525,    0,    0,    0]),
+    row(29, Always,    [ 600,    0, 1000,    0,    0,    0,    0,  600,    0,    0,    0,    0]),
+    row(30, Always,    [ 600,  600, 1000,    0,    0,    0,    0,    0,  700,    0,    0,    0]),
+    row(31, InZone(1), [1000, 1000, 1000,    0,    0,    0,    0,  600,    0, 1500,    0,    0]),
+    row(32, InZone(1), [1000, 1000, 1000,    0,    0,    0,    0,    0,    0, 1500,    0,    0]),
+    row(33, InZone(1), [1000, 1000, 1000,  750,  750,  750,  750,  450,    0, 1500,    0,    0]),
+    row(34, InZone(1), [1000, 1000, 1000,  750,    0,  750,    0,    0,    0, 1500,    0,    0]),
+    row(35, InZone(1), [ 600,    0, 1000,    0,    0,    0,    0,  600,    0, 1500,    0,    0]),
+    row(36, InZone(2), [1000, 1000, 1000,    0,    0,    0,    0,  600,    0,  750,    0,    0]),
+    row(37, InZone(2), [1000, 1000, 1000,    0,    0,    0,    0,    0,    0,  750,    0,    0]),
+    row(38, InZone(2), [1000, 1000, 1000,  750,  750,  750,  750,  450,    0,  750,    0,    0]),
+    row(39, InZone(2), [1000, 1000, 1000,  750,    0,  750,    0,    0,    0,  750,    0,    0]),
+    row(40, InZone(2), [ 600,    0, 1000,    0,    0,    0,    0,  600,    0,  750,    0,    0]),
+    row(41, WithIce,   [1000, 1000, 1000, 1000,    0,    0,    0,    0,    0,    0,  700,    0]),
+    row(42, WithIce,   [1000, 1000, 1000,    0,    0, 1000,    0,    0,    0,    0,  700,  700]),
+    row(43, WithIce,   [ 600,    0, 1000,    0,    0,    0,    0,    0,    0,    0,  700,  700]),
 ];
 
 /// The rows whose factor on L is 500 with live option 1.
-const LIVE_OPTION_ROWS: [u8; 5] = [3, 5, 6, 9, 11];
+const LIVE_OPTION_ROWS: [u8; 6] = [3, 5, 6, 9, 11, 14];
+
+/// The column of a kind: Hp and Hv share one.
+fn column(kind: u8) -> usize {
+    usize::from(if kind <= HP { kind - D } else { kind - HV + 2 })
+}
 
 impl Row {
     /// The full factor on a kind.
     pub fn factor(&self, kind: u8) -> i64 {
-        match kind {
-            D => self.dead,
-            F => self.fluid,
-            HP | HV => self.earth,
-            L => self.live,
-            S => self.roof,
-            LR | R if self.roof_takes == Roof::Any => self.roof,
-            W => self.wind,
-            E => self.earthquake,
-            FA => self.flood,
-            _ => 0,
+        self.columns[column(kind)]
+    }
+
+    fn is_open(&self, sheet: &Sheet) -> bool {
+        let method = if self.number <= 20 { 1 } else { 2 };
+        let opened = match self.opened {
+            Always => true,
+            InZone(zone) => sheet.zone == zone,
+            WithIce => sheet.ice,
+        };
+        sheet.method == method && opened
+    }
+
+    /// The row with the factor on L that the sheet's live option gives it.
+    fn on(mut self, sheet: &Sheet) -> Row {
+        if sheet.live_option == 1 && LIVE_OPTION_ROWS.contains(&self.number) {
+            self.columns[column(L)] = 500;
         }
+        self
     }
 }
 
@@ -117,47 +134,10 @@ pub fn low_factor(sheet: &Sheet) -> i64 {
     }
 }
 
-/// The rows that the sheet's method and flood zone open.
+/// The rows that the sheet's method, flood zone and ice open.
 pub fn open_rows(sheet: &Sheet) -> Vec<Row> {
-    let mut rows = match sheet.method {
-        1 => STRENGTH.to_vec(),
-        _ => ALLOWABLE.to_vec(),
-    };
-    match (sheet.method, sheet.zone) {
-        (1, 1) => add_flood_rows(&mut rows, 9, &[5, 7], |row| row.flood = 2000),
-        (1, 2) => add_flood_rows(&mut rows, 11, &[5, 7], |row| {
-            row.wind = 500;
-            row.flood = 1000;
-        }),
-        (2, 1) => add_flood_rows(&mut rows, 31, &[25, 26, 27, 28, 29], |row| {
-            row.earthquake = 0;
-            row.flood = 1500;
-        }),
-        (2, 2) => add_flood_rows(&mut rows, 36, &[25, 26, 27, 28, 29], |row| {
-            row.earthquake = 0;
-            row.flood = 750;
-        }),
-        _ => {}
-    }
-    if sheet.live_option == 1 {
-        for row in &mut rows {
-            if LIVE_OPTION_ROWS.contains(&row.number) {
-                row.live = 500;
-            }
-        }
-    }
-    rows
-}
-
-/// Appends changed copies of the rows `plain`, numbered upwards from `first`.
-fn add_flood_rows(rows: &mut Vec<Row>, first: u8, plain: &[u8], change: impl Fn(&mut Row)) {
-    for (number, source) in (first..).zip(plain) {
-        let found = rows.iter().find(|row| row.number == *source);
-        let mut flood_row = *found.expect("a flood row copies a plain row");
-        flood_row.number = number;
-        change(&mut flood_row);
-        rows.push(flood_row);
-    }
+    let open = ROWS.into_iter().filter(|row| row.is_open(sheet));
+    open.map(|row| row.on(sheet)).collect()
 }
 
 /// A row, the acting cases and the Hp cases at the low factor; case k is bit k of a set.

@@ -1,5 +1,6 @@
 //! Random lists of fields, of several sorts.
 
+use crate::combination::{D, DI, WI};
 use crate::random::Random;
 use crate::reference::{LONGEST_BODY, PLACES, STATIONS};
 
@@ -49,6 +50,8 @@ struct Style {
     kinds: Vec<u8>,
     stations: Vec<u8>,
     places: u64,
+    /// Percentage of sheets that start with ice.
+    ice: u64,
     effects: Effects,
     greatest_capacity: i64,
     /// Percentage of fields whose values may lie at or outside their limits.
@@ -105,9 +108,10 @@ fn style(random: &mut Random, sort: Sort) -> Style {
         (0..count).map(|_| random.below(16) as u8).collect()
     };
     let mut style = Style {
-        kinds: (1..=11).collect(),
+        kinds: (D..=WI).collect(),
         stations: some_stations(random),
         places: random.pick(&[2, 4, 5, 6, 7, 8, 9, 10, 12, 16, 20, 26]),
+        ice: random.pick(&[0, 50, 100]),
         effects: Effects::UpTo(limit),
         greatest_capacity: random.pick(&[3, 20, 500, 10_000]),
         edge: 2,
@@ -125,8 +129,11 @@ fn style(random: &mut Random, sort: Sort) -> Style {
             style.effects = Effects::Among(random.pick(&[[one, one, one], [-one, 0, one]]).into());
         }
         Sort::OneKind => {
-            let count = random.pick(&[1, 1, 2, 3]);
-            style.kinds = (0..count).map(|_| random.between(1, 11) as u8).collect();
+            style.kinds = few_kinds(random);
+            // Di and Wi act in ice rows alone.
+            if style.kinds.iter().any(|kind| *kind >= DI) {
+                style.ice = 90;
+            }
         }
         Sort::Short => style.places = random.below(4),
         Sort::Valid | Sort::Damaged | Sort::Long => {}
@@ -134,11 +141,20 @@ fn style(random: &mut Random, sort: Sort) -> Style {
     style
 }
 
+fn few_kinds(random: &mut Random) -> Vec<u8> {
+    let count = random.pick(&[1, 1, 2, 3]);
+    let kind = |_| random.between(D.into(), WI.into()) as u8;
+    (0..count).map(kind).collect()
+}
+
 impl Builder<'_> {
     /// A sheet with filled places, effects other than 0 and capacities.
     fn settle(&mut self) {
         let [method, live_option, zone] = self.settings();
         self.fresh(method, live_option, zone);
+        if self.random.chance(self.style.ice) {
+            self.push(8, &[1]);
+        }
         for _ in 0..self.style.places {
             let Some(case) = self.place(false) else { break };
             let kind = self.random.pick(&self.style.kinds);
@@ -185,7 +201,11 @@ impl Builder<'_> {
                 let component = self.random.below(3) as u8;
                 self.push(6, &[station, component]);
             }
-            292..=398 => self.push(7, &[station]),
+            292..=390 => self.push(7, &[station]),
+            391..=398 => {
+                let on = self.random.below(2) as u8;
+                self.push(8, &[on]);
+            }
             _ => self.settle(),
         }
     }
@@ -198,8 +218,8 @@ impl Builder<'_> {
         } else {
             self.near(15, &[0, 14, 15, 16, 255])
         };
-        let kind = self.near(11, &[0, 1, 11, 12, 255]);
-        match self.random.below(16) {
+        let kind = self.near(13, &[0, 1, 11, 12, 13, 14, 255]);
+        match self.random.below(17) {
             0 => {
                 let method = self.near(2, &[0, 1, 2, 3, 255]);
                 let live_option = self.near(1, &[0, 1, 2, 255]);
@@ -220,7 +240,11 @@ impl Builder<'_> {
                 let component = self.near(2, &[0, 1, 2, 3, 255]);
                 self.push(6, &[station, component]);
             }
-            _ => self.push(7, &[station]),
+            14 | 15 => self.push(7, &[station]),
+            _ => {
+                let on = self.near(1, &[0, 1, 2, 255]);
+                self.push(8, &[on]);
+            }
         }
     }
 
@@ -295,7 +319,7 @@ impl Builder<'_> {
     }
 
     fn fill(&mut self, case: u8, kind: u8) {
-        if usize::from(case) < PLACES && (1..=11).contains(&kind) {
+        if usize::from(case) < PLACES && (D..=WI).contains(&kind) {
             self.filled[usize::from(case)] = true;
         }
         self.push(2, &[case, kind]);
@@ -340,8 +364,8 @@ pub fn field(tag: u8, body: &[u8]) -> Vec<u8> {
 
 /// A field that the list of tags does not allow, or the header of one that is too long.
 fn damaged_field(random: &mut Random) -> Vec<u8> {
-    let unknown = random.pick(&[0x00, 0x08, 0x09, 0x7F, 0x80, 0x81, 0x86, 0x87, 0xFF]);
-    let known = random.between(1, 7) as u8;
+    let unknown = random.pick(&[0x00, 0x09, 0x0A, 0x7F, 0x80, 0x81, 0x86, 0x87, 0xFF]);
+    let known = random.between(1, 8) as u8;
     let length = random.below(13) as usize;
     let body: Vec<u8> = (0..length).map(|_| random.below(40) as u8).collect();
     match random.below(100) {

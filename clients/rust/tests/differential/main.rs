@@ -89,7 +89,12 @@ fn arguments() -> Result<(u64, u64), String> {
 impl Run {
     /// The fixed lists, each in a process of its own, and the empty list.
     fn examples(&mut self) {
-        let examples = [worked::frames(), worked::refusals(), worked::lengths()];
+        let examples = [
+            worked::frames(),
+            worked::ice(),
+            worked::refusals(),
+            worked::lengths(),
+        ];
         for (index, example) in (0..).zip(examples.into_iter().flatten()) {
             if let Err(reason) = example.check() {
                 println!("{reason}");
@@ -129,7 +134,7 @@ impl Run {
         let mut result = Ok(());
         let summary = &mut self.summary;
         reference::read_list(&mut Sheet::fresh(), list, |sheet, field, answer| {
-            summary.count(answer);
+            summary.count(sheet, answer);
             if result.is_err() || matches!(answer, Answer::Accepted | Answer::Refused(_)) {
                 return;
             }

@@ -6,7 +6,8 @@ pub const PLACES: usize = 32;
 pub const STATIONS: usize = 16;
 pub const LONGEST_BODY: usize = 60_000;
 pub const LONGEST_ANSWER: usize = 37;
-pub const LONGEST_SAVED: usize = 5_958;
+/// What a call asks for to save into, whatever it saves.
+pub const SAVED_ROOM: usize = 8_192;
 
 /// A load case: its kind and, for each station, the effects N, My, Mz.
 #[derive(Clone, Copy)]
@@ -21,6 +22,7 @@ pub struct Sheet {
     pub method: u8,
     pub live_option: u8,
     pub zone: u8,
+    pub ice: bool,
     pub places: [Option<Case>; PLACES],
     pub capacities: [Option<[u16; 3]>; STATIONS],
 }
@@ -31,6 +33,7 @@ impl Sheet {
             method: 1,
             live_option: 0,
             zone: 0,
+            ice: false,
             places: [None; PLACES],
             capacities: [None; STATIONS],
         }
@@ -146,6 +149,7 @@ fn refusal(sheet: &Sheet, tag: u8, body: &[u8]) -> Option<u8> {
         0x05 => 7,
         0x06 => 2,
         0x07 => 1,
+        0x08 => 1,
         _ => return Some(1),
     };
     if body.len() != length {
@@ -163,7 +167,7 @@ fn value_refusal(tag: u8, body: &[u8]) -> Option<u8> {
     let capacity = |at: usize| due(!(1..=10_000).contains(&unsigned(body, at)), 10);
     match tag {
         0x01 => due(!(1..=2).contains(&body[0]) || body[1] > 1 || body[2] > 2, 4),
-        0x02 => case().or(due(!(1..=11).contains(&body[1]), 7)),
+        0x02 => case().or(due(!(1..=13).contains(&body[1]), 7)),
         0x03 => case()
             .or(station(1))
             .or(effect(2))
@@ -172,7 +176,8 @@ fn value_refusal(tag: u8, body: &[u8]) -> Option<u8> {
         0x04 => case(),
         0x05 => station(0).or(capacity(1)).or(capacity(3)).or(capacity(5)),
         0x06 => station(0).or(due(body[1] > 2, 8)),
-        _ => station(0),
+        0x07 => station(0),
+        _ => due(body[0] > 1, 4),
     }
 }
 
@@ -209,7 +214,8 @@ fn perform(sheet: &mut Sheet, tag: u8, body: &[u8]) -> Answer {
         0x04 => sheet.places[first] = None,
         0x05 => sheet.capacities[first] = Some([1, 3, 5].map(|at| unsigned(body, at))),
         0x06 => return extremes(sheet, first, usize::from(body[1])),
-        _ => return utilisation(sheet, first),
+        0x07 => return utilisation(sheet, first),
+        _ => sheet.ice = body[0] == 1,
     }
     Answer::Accepted
 }
@@ -319,6 +325,9 @@ fn consider(best: &mut [Option<(usize, i128)>], kind: u8, place: usize, value: i
 // SCOPE 8.1
 pub fn save(sheet: &Sheet) -> Vec<u8> {
     let mut saved = vec![1, 0, 3, sheet.method, sheet.live_option, sheet.zone];
+    if sheet.ice {
+        saved.extend([8, 0, 1, 1]);
+    }
     for (place, case) in filled(&sheet.places) {
         saved.extend([2, 0, 2, place as u8, case.kind]);
         for (station, effects) in case.effects.iter().enumerate() {
@@ -376,7 +385,7 @@ pub fn load(state: &[u8]) -> Result<Sheet, u8> {
 
 /// The sheet on which a run starts, or the refusal of the whole run.
 pub fn start(state: &[u8], input: &[u8], output: usize, saved: usize) -> Result<Sheet, u8> {
-    if output < LONGEST_ANSWER * fields(input).len() || saved < LONGEST_SAVED {
+    if output < LONGEST_ANSWER * fields(input).len() || saved < SAVED_ROOM {
         return Err(14);
     }
     load(state)

@@ -3,7 +3,7 @@
 use std::time::Duration;
 
 use crate::lists::Sort;
-use crate::reference::Answer;
+use crate::reference::{Answer, Sheet};
 
 #[derive(Default)]
 pub struct Summary {
@@ -15,6 +15,7 @@ pub struct Summary {
     pub accepted: u64,
     pub extremes: u64,
     pub utilisations: u64,
+    pub with_ice: u64,
     pub enumerated: u64,
     pub refusals: [u64; 15],
     pub chains: u64,
@@ -23,7 +24,11 @@ pub struct Summary {
 }
 
 impl Summary {
-    pub fn count(&mut self, answer: &Answer) {
+    /// Counts an answer; `sheet` is the sheet after the field.
+    pub fn count(&mut self, sheet: &Sheet, answer: &Answer) {
+        if matches!(answer, Answer::Extremes { .. } | Answer::Utilisation { .. }) {
+            self.with_ice += u64::from(sheet.ice);
+        }
         match answer {
             Answer::Accepted => self.accepted += 1,
             Answer::Refused(number) => self.refusals[usize::from(*number)] += 1,
@@ -53,6 +58,7 @@ impl Summary {
         line("edits accepted", self.accepted);
         line("extremes answered (06)", self.extremes);
         line("utilisations answered (07)", self.utilisations);
+        line("  of both, with ice", self.with_ice);
         line("  of both, also enumerated", self.enumerated);
         for number in 1..=14 {
             line(&format!("refusal {number}"), self.refusals[number]);

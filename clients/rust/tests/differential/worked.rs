@@ -1,7 +1,7 @@
-//! Fixed lists: the frames worked by hand, the small inputs of the table of refusals, and fields at
-//! the limits of a length.
+//! Fixed lists: the frames worked by hand, sheets with ice, the small inputs of the table of refusals,
+//! and fields at the limits of a length.
 
-use crate::combination::{D, E, F, FA, HP, HV, L, R, S, W};
+use crate::combination::{D, DI, E, F, FA, HP, HV, L, LR, R, S, W, WI};
 use crate::lists::field;
 use crate::reference::{read_list, Answer, Sheet, LONGEST_BODY};
 
@@ -15,12 +15,13 @@ pub struct Example {
 enum Expected {
     Maximum(i128),
     MaximumInRow(i128, u8),
+    MinimumInRow(i128, u8),
     Extremes(i128, i128),
     Utilisation(i128, i128, bool),
     Bytes(Vec<u8>),
 }
 
-use Expected::{Bytes, Extremes, Maximum, MaximumInRow, Utilisation};
+use Expected::{Bytes, Extremes, Maximum, MaximumInRow, MinimumInRow, Utilisation};
 
 impl Example {
     /// Compares the reference with the number or the bytes of the document.
@@ -33,6 +34,9 @@ impl Example {
             (Maximum(value), Answer::Extremes { maximum, .. }) => maximum.value == *value,
             (MaximumInRow(value, row), Answer::Extremes { maximum, .. }) => {
                 maximum.value == *value && maximum.combination.row == *row
+            }
+            (MinimumInRow(value, row), Answer::Extremes { minimum, .. }) => {
+                minimum.value == *value && minimum.combination.row == *row
             }
             (Extremes(most, least), Answer::Extremes { maximum, minimum }) => {
                 (maximum.value, minimum.value) == (*most, *least)
@@ -123,6 +127,47 @@ pub fn frames() -> Vec<Example> {
     ]
 }
 
+/// Station 0, N only, with ice.
+fn iced(settings: [u8; 3], list: &[(u8, i16)]) -> Vec<u8> {
+    [cases(settings, list), field(8, &[1])].concat()
+}
+
+// SCOPE 3.4, 3.5 and 3.7
+#[rustfmt::skip]
+pub fn ice() -> Vec<Example> {
+    const ALLOWABLE: [u8; 3] = [2, 0, 0];
+    const HALF: [u8; 3] = [1, 1, 0];
+    let glaze = [(D, 100), (DI, 100), (WI, 50)];
+    let uplift = [(D, 100), (WI, -300)];
+    let roof = [(LR, 100), (S, 40), (DI, 200)];
+    let several = [(DI, 100), (DI, 90), (WI, 50), (WI, 40)];
+    let again = [iced(PLAIN, &glaze), field(1, &PLAIN)].concat();
+    let off = [iced(PLAIN, &glaze), field(8, &[0])].concat();
+    let refused = [iced(PLAIN, &glaze), field(8, &[2])].concat();
+    vec![
+        extremes("no ice", cases(PLAIN, &glaze), Extremes(140_000, 90_000)),
+        extremes("no ice, method 2", cases(ALLOWABLE, &glaze), Extremes(100_000, 60_000)),
+        extremes("row 13", iced(PLAIN, &[(D, 100), (L, 300), (S, 100), (DI, 100)]), MaximumInRow(670_000, 13)),
+        extremes("row 14", iced(PLAIN, &glaze), MaximumInRow(270_000, 14)),
+        extremes("row 15", iced(PLAIN, &uplift), MinimumInRow(-210_000, 15)),
+        extremes("row 41", iced(ALLOWABLE, &[(D, 100), (L, 100), (DI, 100)]), MaximumInRow(270_000, 41)),
+        extremes("row 42", iced(ALLOWABLE, &[(D, 100), (DI, 100), (WI, 50), (S, 10)]), MaximumInRow(215_000, 42)),
+        extremes("row 43", iced(ALLOWABLE, &uplift), MinimumInRow(-150_000, 43)),
+        extremes("S for the roof load, row 14", iced(PLAIN, &roof), MaximumInRow(220_000, 14)),
+        extremes("S for the roof load, row 42", iced(ALLOWABLE, &roof), MaximumInRow(180_000, 42)),
+        extremes("one Di and one Wi", iced(PLAIN, &several), Extremes(150_000, 0)),
+        extremes("one Di and one Wi, method 2", iced(ALLOWABLE, &several), Extremes(105_000, 0)),
+        extremes("the live option, row 14", iced(HALF, &[(L, 100), (DI, 200)]), MaximumInRow(250_000, 14)),
+        extremes("the live option, row 13", iced(HALF, &[(L, 200), (DI, 100)]), MaximumInRow(340_000, 13)),
+        extremes("no W in an ice row", iced(PLAIN, &[(W, 100), (WI, 50)]), Extremes(100_000, 0)),
+        extremes("ice apart from flood", iced([1, 0, 1], &[(FA, 100), (DI, 100)]), Extremes(200_000, 0)),
+        extremes("no F in row 15", iced(PLAIN, &[(F, -30), (WI, 100)]), MaximumInRow(100_000, 15)),
+        extremes("08 and 01", again, Extremes(0, 0)),
+        extremes("08 on and off", off, Extremes(140_000, 90_000)),
+        extremes("08 with byte 2", refused, MaximumInRow(270_000, 14)),
+    ]
+}
+
 // SCOPE 11.2
 /// Two wind cases with effects in different components: the separate extremes do not add.
 fn two_winds() -> Example {
@@ -162,14 +207,15 @@ fn p2_answer() -> Vec<u8> {
 
 // SCOPE 7.1
 pub fn refusals() -> Vec<Example> {
-    let examples: [(u8, &[u8]); 13] = [
+    let examples: [(u8, &[u8]); 14] = [
         (3, &[1, 0, 3, 1]),
         (1, &[0x7F, 0, 0]),
         (2, &[4, 0, 2, 0, 0]),
         (4, &[1, 0, 3, 3, 0, 0]),
+        (4, &[8, 0, 1, 2]),
         (5, &[4, 0, 1, 0x20]),
         (6, &[7, 0, 1, 0x10]),
-        (7, &[2, 0, 2, 0, 0x0C]),
+        (7, &[2, 0, 2, 0, 0x0E]),
         (8, &[6, 0, 2, 0, 3]),
         (9, &[3, 0, 8, 0, 0, 0x27, 0x11, 0, 0, 0, 0]),
         (10, &[5, 0, 7, 0, 0, 0, 0, 1, 0, 1]),

@@ -4,11 +4,10 @@ use Prim.Native.Nat.{ℕ}
 use native.Mathlib.Omega.{arith}
 use mathlib.Core.Path.{_≡_, refl, sym, ap, _∙_}
 use lib.IntN.{ℤ}
-use Rattle.standard.specs.Rows.{rowsTo, byZone}
+use Rattle.standard.specs.Rows.{rowsTo, byZone, byIce}
 use Rattle.terms.specs.Value.{valueOf}
 use Rattle.envelope.specs.declared.Best.{Best}
-use Rattle.envelope.specs.Envelope.{bestAt, bestAmong}
-use Rattle.envelope.specs.Envelope.{bestOf}
+use Rattle.envelope.specs.Envelope.{bestAt, bestAmong, bestOf}
 use Rattle.envelope.proofs.Spans.{strength-rows, allowable-rows, no-rows}
 use borrow.Author.Needs.{needs}
 use Rattle.governing.proofs.governing.Statement.{statement}
@@ -16,19 +15,27 @@ use Rattle.governing.proofs.governing.Tie as tie
 
 returns : tie.Need-returns
 returns c =
-    let t = c .before .before in
+    let f = c .before .before in
+    let t = f .before .before in
     let i = t .before .before in
     let a = i .before .before .before .args in
     let v : ℕ → ℤ = λ row. valueOf (a .s) row (a .t) in
-    c .strength-flooded .ensures ∙ ap (λ (b : Best). bestAmong v b (byZone (a .s) (rowsTo 9 10) (rowsTo 11 12))) (t .strength .ensures) ∙ sym (strength-rows (a .s) v (i .if1 .taken))
+    let zone = byZone (a .s) (rowsTo 9 10) (rowsTo 11 12) in
+    c .strength-iced .ensures
+    ∙ ap (λ (b : Best). bestAmong v b (byIce (a .s) (rowsTo 13 15))) (f .strength-flooded .ensures ∙ ap (λ (b : Best). bestAmong v b zone) (t .strength .ensures))
+    ∙ sym (strength-rows (a .s) v (i .if1 .taken))
 
 returns-2 : tie.Need-returns-2
 returns-2 c =
-    let t = c .before .before in
+    let f = c .before .before in
+    let t = f .before .before in
     let i = t .before .before in
     let a = i .before .before .before .before .before .args in
     let v : ℕ → ℤ = λ row. valueOf (a .s) row (a .t) in
-    c .allowable-flooded .ensures ∙ ap (λ (b : Best). bestAmong v b (byZone (a .s) (rowsTo 31 35) (rowsTo 36 40))) (t .allowable .ensures) ∙ sym (allowable-rows (a .s) v (i .if2 .taken))
+    let zone = byZone (a .s) (rowsTo 31 35) (rowsTo 36 40) in
+    c .allowable-iced .ensures
+    ∙ ap (λ (b : Best). bestAmong v b (byIce (a .s) (rowsTo 41 43))) (f .allowable-flooded .ensures ∙ ap (λ (b : Best). bestAmong v b zone) (t .allowable .ensures))
+    ∙ sym (allowable-rows (a .s) v (i .if2 .taken))
 
 returns-3 : tie.Need-returns-3
 returns-3 c =
@@ -44,7 +51,9 @@ governing-spec =
     (λ c κs. search needs)
     (λ c κs. search needs)
     (λ c κs. search needs)
+    (λ c κs. search needs)
     returns
+    (λ c κs. search needs)
     (λ c κs. search needs)
     (λ c κs. search needs)
     returns-2

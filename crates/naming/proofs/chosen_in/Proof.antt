@@ -11,7 +11,9 @@ use Rattle.naming.proofs.chosen_in.Tie as tie
 returns : tie.Need-returns
 unfolding chosenOf
 returns c =
-    let g6 = c .before in
+    let g8 = c .before in
+    let g7 = g8 .before in
+    let g6 = g7 .before in
     let g5 = g6 .before in
     let g4 = g5 .before in
     let g3 = g4 .before in
@@ -28,13 +30,17 @@ returns c =
       roof = (g4 .gathered4 .ensures ∙ among 6 3) i;
       wind = (g5 .gathered5 .ensures ∙ among 9 1) i;
       quake = (g6 .gathered6 .ensures ∙ among 10 1) i;
-      flood = (c .gathered7 .ensures ∙ among 11 1) i;
+      flood = (g7 .gathered7 .ensures ∙ among 11 1) i;
+      ice = (g8 .gathered8 .ensures ∙ among 12 1) i;
+      icewind = (c .gathered9 .ensures ∙ among 13 1) i;
     }
 
 pub chosen-in-spec : {M : Type 1} → statement M
 chosen-in-spec =
     tie.close
     (tie.spec
+    (λ c κs. search needs)
+    (λ c κs. search needs)
     (λ c κs. search needs)
     (λ c κs. search needs)
     (λ c κs. search needs)

@@ -6,7 +6,7 @@ use borrow.Author.Needs.{needs}
 use Rattle.envelope.specs.Range.{effectOf}
 use Rattle.envelope.specs.Envelope.{weighed}
 use Rattle.naming.specs.Sets.{chosenOf, ChosenInRange}
-use Rattle.naming.proofs.Naming.{chosen-small, six-small, named-is}
+use Rattle.naming.proofs.Naming.{chosen-small, marked-small, named-is}
 use Rattle.naming.proofs.sets_by.Statement.{statement}
 use Rattle.naming.proofs.sets_by.Tie as tie
 
@@ -34,21 +34,16 @@ marked-by-requires-5 c κs = let p = c .before .before .before .before in (small
 marked-by-requires-6 : tie.Need-marked-by-requires-6
 marked-by-requires-6 c κs = let p = c .before .before .before .before .before in (small p .flood, p .before .before .pre .3, p .before .before .pre .4)
 
+marked-by-requires-7 : tie.Need-marked-by-requires-7
+marked-by-requires-7 c κs = let p = c .before .before .before .before .before .before in (small p .ice, p .before .before .pre .3, p .before .before .pre .4)
+
+marked-by-requires-8 : tie.Need-marked-by-requires-8
+marked-by-requires-8 c κs = let p = c .before .before .before .before .before .before .before in (small p .icewind, p .before .before .pre .3, p .before .before .pre .4)
+
 named-requires : tie.Need-named-requires
 named-requires c κs =
-    let m5 = c .before in
-    let m4 = m5 .before in
-    let m3 = m4 .before in
-    let m2 = m3 .before in
-    let m1 = m2 .before in
-    let p = m1 .before in
-    let s = p .before .before in
-    six-small (chosenOf (s .args .row) (s .args .places .now)) (s .pre .2) (p .chosen-in .result) (p .chosen-in .ensures) (x s) _ _ _ _ _ _
-    (m1 .marked-by .ensures) (m2 .marked-by2 .ensures) (m3 .marked-by3 .ensures) (m4 .marked-by4 .ensures) (m5 .marked-by5 .ensures) (c .marked-by6 .ensures)
-
-returns : tie.Need-returns
-returns c =
-    let m6 = c .before in
+    let m7 = c .before in
+    let m6 = m7 .before in
     let m5 = m6 .before in
     let m4 = m5 .before in
     let m3 = m4 .before in
@@ -56,8 +51,23 @@ returns c =
     let m1 = m2 .before in
     let p = m1 .before in
     let s = p .before .before in
-    named-is (chosenOf (s .args .row) (s .args .places .now)) (s .pre .2) (p .chosen-in .result) (p .chosen-in .ensures) (x s) _ _ _ _ _ _
-    (m1 .marked-by .ensures) (m2 .marked-by2 .ensures) (m3 .marked-by3 .ensures) (m4 .marked-by4 .ensures) (m5 .marked-by5 .ensures) (m6 .marked-by6 .ensures)
+    marked-small (chosenOf (s .args .row) (s .args .places .now)) (s .pre .2) (p .chosen-in .result) (p .chosen-in .ensures) (x s) _ _ _ _ _ _ _ _
+    (m1 .marked-by .ensures) (m2 .marked-by2 .ensures) (m3 .marked-by3 .ensures) (m4 .marked-by4 .ensures) (m5 .marked-by5 .ensures) (m6 .marked-by6 .ensures) (m7 .marked-by7 .ensures) (c .marked-by8 .ensures)
+
+returns : tie.Need-returns
+returns c =
+    let m8 = c .before in
+    let m7 = m8 .before in
+    let m6 = m7 .before in
+    let m5 = m6 .before in
+    let m4 = m5 .before in
+    let m3 = m4 .before in
+    let m2 = m3 .before in
+    let m1 = m2 .before in
+    let p = m1 .before in
+    let s = p .before .before in
+    named-is (chosenOf (s .args .row) (s .args .places .now)) (s .pre .2) (p .chosen-in .result) (p .chosen-in .ensures) (x s) _ _ _ _ _ _ _ _
+    (m1 .marked-by .ensures) (m2 .marked-by2 .ensures) (m3 .marked-by3 .ensures) (m4 .marked-by4 .ensures) (m5 .marked-by5 .ensures) (m6 .marked-by6 .ensures) (m7 .marked-by7 .ensures) (m8 .marked-by8 .ensures)
     (c .named .result) (c .named .ensures)
 
 pub sets-by-spec : {M : Type 1} → statement M
@@ -71,5 +81,7 @@ sets-by-spec =
     marked-by-requires-4
     marked-by-requires-5
     marked-by-requires-6
+    marked-by-requires-7
+    marked-by-requires-8
     named-requires
     returns)

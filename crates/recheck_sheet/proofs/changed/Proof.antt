@@ -6,7 +6,7 @@ use Prim.Native.Nat.{ℕ}
 use lib.ListN.{getD}
 use borrow.Author.Tests.{ne-eqb}
 use Rattle.recheck_sheet.specs.declared.WorkingSheet.{WorkingSheet}
-use Rattle.recheck_sheet.specs.Sheet.{blankOf, withKind, changedBy}
+use Rattle.recheck_sheet.specs.Sheet.{blankOf, withKind, withIce, changedBy}
 use borrow.Author.Needs.{needs}
 use Rattle.recheck_sheet.proofs.changed.Statement.{statement}
 use Rattle.recheck_sheet.proofs.changed.Tie as tie
@@ -17,8 +17,11 @@ started p q h l = cc
 placed : {r : WorkingSheet} (w : WorkingSheet) {a b a′ b′ : ℕ} → r ≡ withKind w a b → a ≡ a′ → b ≡ b′ → r ≡ withKind w a′ b′
 placed w p q h = cc
 
-other : (tag : ℕ) (w : WorkingSheet) (f : List ℕ) → (tag ≡ 1 → ⊥) → (tag ≡ 2 → ⊥) → (tag ≡ 3 → ⊥) → (tag ≡ 4 → ⊥) → (tag ≡ 5 → ⊥) → changedBy tag w f ≡ w
-other tag w f a b c d e = rw (ne-eqb tag 1 a, ne-eqb tag 2 b, ne-eqb tag 3 c, ne-eqb tag 4 d, ne-eqb tag 5 e)
+switched : {r : WorkingSheet} (w : WorkingSheet) {a a′ : ℕ} → r ≡ withIce w a → a ≡ a′ → r ≡ withIce w a′
+switched w p q = cc
+
+other : (tag : ℕ) (w : WorkingSheet) (f : List ℕ) → (tag ≡ 1 → ⊥) → (tag ≡ 2 → ⊥) → (tag ≡ 3 → ⊥) → (tag ≡ 4 → ⊥) → (tag ≡ 5 → ⊥) → (tag ≡ 8 → ⊥) → changedBy tag w f ≡ w
+other tag w f a b c d e g = rw (ne-eqb tag 1 a, ne-eqb tag 2 b, ne-eqb tag 3 c, ne-eqb tag 4 d, ne-eqb tag 5 e, ne-eqb tag 8 g)
 
 returns : tie.Need-returns
 returns c = let e : getD (c .before .before .before .before .before .before .before .args .field .now) 0 0 ≡ 1 = search needs in rw e (started (c .blank .ensures) (c .before .before .before .byte-at2 .ensures) (c .before .before .byte-at3 .ensures) (c .before .byte-at4 .ensures))
@@ -36,9 +39,12 @@ returns-5 : tie.Need-returns-5
 returns-5 c = let e : getD (c .before .before .before .before .before .before .before .before .args .field .now) 0 0 ≡ 5 = search needs in rw e (c .with-capacities .ensures)
 
 returns-6 : tie.Need-returns-6
-returns-6 c =
-    let a = c .before .before .before .before .before .before .before .args in
-    sym (other (getD (a .field .now) 0 0) (a .w) (a .field .now) (λ e. search needs) (λ e. search needs) (λ e. search needs) (λ e. search needs) (λ e. search needs))
+returns-6 c = let e : getD (c .before .before .before .before .before .before .before .before .before .before .args .field .now) 0 0 ≡ 8 = search needs in rw e (switched (c .before .before .before .before .before .before .before .before .before .before .args .w) (c .with-ice .ensures) (c .before .byte-at6 .ensures))
+
+returns-7 : tie.Need-returns-7
+returns-7 c =
+    let a = c .before .before .before .before .before .before .before .before .args in
+    sym (other (getD (a .field .now) 0 0) (a .w) (a .field .now) (λ e. search needs) (λ e. search needs) (λ e. search needs) (λ e. search needs) (λ e. search needs) (λ e. search needs))
 
 pub changed-spec : {M : Type 1} → statement M
 changed-spec =
@@ -61,4 +67,7 @@ changed-spec =
     returns-4
     (λ c κs. search needs)
     returns-5
-    returns-6)
+    (λ c κs. search needs)
+    (λ c κs. search needs)
+    returns-6
+    returns-7)

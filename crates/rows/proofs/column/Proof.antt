@@ -31,7 +31,7 @@ returns-5 : tie.Need-returns-5
 unfolding columnOf
 returns-5 c =
     let n = c .before .before .before .before .before .match .rest .1 in
-    same-at (λ k. k - 2) (columnOf false) 9 3 (c .before .before .before .before .before .before .args .kind) refl (omega (arith, n)) (omega arith)
+    same-at (λ k. k - 2) (columnOf false) 9 5 (c .before .before .before .before .before .before .args .kind) refl (omega (arith, n)) (omega arith)
 
 returns-6 : tie.Need-returns-6
 unfolding columnOf

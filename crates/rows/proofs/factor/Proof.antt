@@ -19,13 +19,13 @@ use Rattle.standard.proofs.Table.{at, same-at, all-at}
 use Rattle.rows.proofs.factor.Statement.{statement}
 use Rattle.rows.proofs.factor.Tie as tie
 
-column-below : (k : ℕ) → columnOf false k < 10
+column-below : (k : ℕ) → columnOf false k < 12
 unfolding columnOf
-column-below k = ltb→lt _ _ (all-at (λ x. ltb x 10) (kindColumns false) 0 tt tt k)
+column-below k = ltb→lt _ _ (all-at (λ x. ltb x 12) (kindColumns false) 0 tt tt k)
 
 in-column : (l : Line) (k : ℕ) → 0 < k → k < kindCount → getD (entries l) (columnOf false k) 0 ≡ getD (columns false l) k 0
 unfolding columnOf
-in-column l k p h = same-at (λ j. getD (entries l) (columnOf false j) 0) (λ j. getD (columns false l) j 0) 1 11 k refl p h
+in-column l k p h = same-at (λ j. getD (entries l) (columnOf false j) 0) (λ j. getD (columns false l) j 0) 1 13 k refl p h
 
 row-entries : (r : ℕ) → r < rowCount → getD rowTable r [] ≡ entries (getD lines r blank)
 unfolding rowTable
@@ -40,7 +40,7 @@ plain l live k (inl n) = other (eqb live 1)
     other false = refl
 plain l live k (inr n) = ap (λ (t : Bool). getD (columns t l) k 0) (sym (ne-eqb live 1 n))
 
-below : (c : tie.After-column) → c .column .result < 10
+below : (c : tie.After-column) → c .column .result < 12
 below c = omega (arith, c .column .ensures, column-below (c .before .args .kind))
 
 mul-plain-2 : tie.Need-mul-plain-2

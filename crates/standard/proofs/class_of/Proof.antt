@@ -27,7 +27,7 @@ returns-3 c =
 returns-4 : tie.Need-returns-4
 unfolding classOf
 returns-4 c =
-    same-at (λ k. OneOf (k - 8)) classOf 9 3 (c .before .before .before .before .before .args .kind) refl (omega arith) (omega arith)
+    same-at (λ k. OneOf (k - 8)) classOf 9 5 (c .before .before .before .before .before .args .kind) refl (omega arith) (omega arith)
 
 returns-5 : tie.Need-returns-5
 unfolding classOf

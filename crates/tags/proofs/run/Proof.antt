@@ -2,7 +2,7 @@
 -- Assumes nothing.
 use mathlib.Core.Path.{_≡_}
 use Rattle.tags.proofs.Laws.{last-tag}
-use Rattle.tags.proofs.Arms.{restart-arm, fill-arm, effects-arm, empty-arm, capacities-arm, extremes-arm, utilisation-arm}
+use Rattle.tags.proofs.Arms.{restart-arm, fill-arm, effects-arm, empty-arm, capacities-arm, extremes-arm, utilisation-arm, switch-arm}
 use borrow.Author.Needs.{needs}
 use Rattle.tags.proofs.run.Statement.{statement}
 use Rattle.tags.proofs.run.Tie as tie
@@ -40,15 +40,21 @@ returns-6 c =
 returns-7 : tie.Need-returns-7
 returns-7 c =
     let m = c .before .before .before in
+    rw (m .match .keys7) (utilisation-arm _ _ (m .before .before .byte .ensures) (c .look-utilisation .ensures .0))
+
+returns-8 : tie.Need-returns-8
+returns-8 c =
+    let m = c .before in
     let s = m .before .before .before .before in
     let r = m .match .rest in
-    let seven : s .args .tag ≡ 7 = last-tag (s .args .tag) (s .pre .1) (r .0 .0 .0 .0 .0 .1) (r .0 .0 .0 .0 .1) (r .0 .0 .0 .1) (r .0 .0 .1) (r .0 .1) (r .1) in
-    rw seven (utilisation-arm _ _ (m .before .before .byte .ensures) (c .look-utilisation .ensures .0))
+    let eight : s .args .tag ≡ 8 = last-tag (s .args .tag) (s .pre .1) (r .0 .0 .0 .0 .0 .0 .1) (r .0 .0 .0 .0 .0 .1) (r .0 .0 .0 .0 .1) (r .0 .0 .0 .1) (r .0 .0 .1) (r .0 .1) (r .1) in
+    rw eight (switch-arm _ _ (m .before .before .byte .ensures) (c .switch-ice .ensures _))
 
 pub run-spec : {M : Type 1} → statement M
 run-spec =
     tie.close
     (tie.spec
+    (λ c κs. search needs)
     (λ c κs. search needs)
     (λ c κs. search needs)
     (λ c κs. search needs)
@@ -71,4 +77,5 @@ run-spec =
     returns-4
     returns-5
     returns-6
-    returns-7)
+    returns-7
+    returns-8)

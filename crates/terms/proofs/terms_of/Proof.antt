@@ -41,10 +41,17 @@ negated-requires c κs =
 greater-requires : tie.Need-greater-requires
 greater-requires c κs = above _ _ (back (c .before .held5 .ok) (c .before .held5 .ensures))
 
+held-requires-12 : tie.Need-held-requires-12
+held-requires-12 c κs =
+    let s = c .before .before .before .before .before .before .before .before .before .before .before .before .before .before .before .before .before in
+    (s .pre .0, omega arith, omega arith, s .pre .1)
+
 returns : tie.Need-returns
 unfolding termsBy
 returns c =
-    let h9 = c .before in
+    let h11 = c .before in
+    let h10 = h11 .before in
+    let h9 = h10 .before in
     let h8 = h9 .before in
     let h7 = h8 .before in
     let g = h7 .before in
@@ -68,7 +75,9 @@ returns c =
       snow = back (h7 .held7 .ok) (h7 .held7 .ensures) i;
       wind = back (h8 .held8 .ok) (h8 .held8 .ensures) i;
       quake = back (h9 .held9 .ok) (h9 .held9 .ensures) i;
-      flood = back (c .held10 .ok) (c .held10 .ensures) i;
+      flood = back (h10 .held10 .ok) (h10 .held10 .ensures) i;
+      ice = back (h11 .held11 .ok) (h11 .held11 .ensures) i;
+      icewind = back (c .held12 .ok) (c .held12 .ensures) i;
     }
 
 pub terms-of-spec : {M : Type 1} → statement M
@@ -90,4 +99,6 @@ terms-of-spec =
     (λ c κs. search needs)
     (λ c κs. search needs)
     (λ c κs. search needs)
+    (λ c κs. search needs)
+    held-requires-12
     returns)

@@ -1,4 +1,4 @@
--- The terms of the groups join the rest one by one; of roof and snow the greater.
+-- The greater of roof and snow joins what acts together, and then the groups of one kind each.
 -- Assumes nothing.
 use Prim.Native.Nat.{ℕ, _+_, _*_, _<_, _≤_, _^_, min, max}
 use native.Mathlib.Omega.{arith}
@@ -10,7 +10,7 @@ use Rattle.integers.specs.Sums.{up, down}
 use Rattle.integers.proofs.Machine.{read, back}
 use Rattle.integers.proofs.Signs.{eq-in, add-parts, mul-down, one-part, abs-parts, abs-add}
 use Rattle.standard.specs.Rows.{factorOf}
-use Rattle.terms.specs.Value.{factorMost, Gained, TermsInRange, ownOf, valueOf}
+use Rattle.terms.specs.Value.{factorMost, Gained, TermsInRange, ownOf, singlesSize, singlesOf, valueOf}
 use Rattle.terms.proofs.Scaled.{room-read, gained-read}
 use borrow.Author.Needs.{needs}
 use Rattle.terms.proofs.value_of.Statement.{statement}
@@ -67,7 +67,7 @@ greater-told c =
       ),
     )
 
--- the sizes of the terms that are in the total before the wind's
+-- the sizes of the terms that are in the total before the groups of one kind
 added-told : (c : tie.After-added) → let g = c .before in let o = g .before .before .before .before .before in
     (c .added .result ≡ toZ w64 (ofZ w64 (o .own-value .result)) +ℤ toZ w64 (ofZ w64 (g .greater .result)))
     × (natAbs (c .added .result) ≤ natAbs (toZ w64 (ofZ w64 (o .own-value .result))) + natAbs (toZ w64 (ofZ w64 (g .greater .result))))
@@ -75,35 +75,6 @@ added-told c =
     let g = c .before in
     let o = g .before .before .before .before .before in
     (c .added .ensures, omega (arith, ap natAbs (c .added .ensures), abs-add (toZ w64 (ofZ w64 (o .own-value .result))) (toZ w64 (ofZ w64 (g .greater .result)))))
-
-wind-told : (c : tie.After-with-term3) → let d = c .before .before in let a = d .before .before .before .before .before .before .before .args in
-    Gained (c .with-term3 .result) (d .added .result) (factorOf (a .s) (a .row) 9) (a .t .wind)
-wind-told c =
-    let d = c .before .before in
-    let g = d .before in
-    let o = g .before .before .before .before .before in
-    gained-read (d .added .result) (o .before .args .t .wind) (omega (arith, own-told o .1, greater-told g .1, added-told d .1)) (omega arith) (c .with-term3 .ensures)
-
-quake-told : (c : tie.After-with-term4) → let w = c .before .before in let a = w .before .before .before .before .before .before .before .before .before .args in
-    Gained (c .with-term4 .result) (w .with-term3 .result) (factorOf (a .s) (a .row) 10) (a .t .quake)
-quake-told c =
-    let w = c .before .before in
-    let d = w .before .before in
-    let g = d .before in
-    let o = g .before .before .before .before .before in
-    gained-read (w .with-term3 .result) (o .before .args .t .quake)
-    (omega (arith, own-told o .1, greater-told g .1, added-told d .1, wind-told w .small)) (omega arith) (c .with-term4 .ensures)
-
-flood-told : (c : tie.After-with-term5) → let q = c .before .before in let a = q .before .before .before .before .before .before .before .before .before .before .before .args in
-    Gained (c .with-term5 .result) (q .with-term4 .result) (factorOf (a .s) (a .row) 11) (a .t .flood)
-flood-told c =
-    let q = c .before .before in
-    let w = q .before .before in
-    let d = w .before .before in
-    let g = d .before in
-    let o = g .before .before .before .before .before in
-    gained-read (q .with-term4 .result) (o .before .args .t .flood)
-    (omega (arith, own-told o .1, greater-told g .1, added-told d .1, wind-told w .small, quake-told q .small)) (omega arith) (c .with-term5 .ensures)
 
 with-term-requires : tie.Need-with-term-requires
 with-term-requires c κs = let s = c .before .before in (s .pre .0, omega arith, omega arith, s .pre .1, room-read (pos 0) (s .args .t .roof) (omega arith) (omega arith) (omega arith))
@@ -123,51 +94,23 @@ added-requires c κs =
     let o = c .before .before .before .before .before in
     omega (arith, own-told o .1, greater-told c .1)
 
-with-term-requires-3 : tie.Need-with-term-requires-3
-with-term-requires-3 c κs =
-    let d = c .before in
-    let g = d .before in
+with-singles-requires : tie.Need-with-singles-requires
+with-singles-requires c κs =
+    let g = c .before in
     let o = g .before .before .before .before .before in
     let s = o .before in
-    let h : natAbs (d .added .result) + factorMost * natAbs (s .args .t .wind) < 2 ^ 63 = omega (arith, own-told o .1, greater-told g .1, added-told d .1) in
-    (s .pre .0, omega arith, omega arith, s .pre .1, room-read (d .added .result) (s .args .t .wind) (omega arith) (omega arith) h)
-
-with-term-requires-4 : tie.Need-with-term-requires-4
-with-term-requires-4 c κs =
-    let w = c .before in
-    let d = w .before .before in
-    let g = d .before in
-    let o = g .before .before .before .before .before in
-    let s = o .before in
-    let h : natAbs (w .with-term3 .result) + factorMost * natAbs (s .args .t .quake) < 2 ^ 63 =
-    omega (arith, own-told o .1, greater-told g .1, added-told d .1, wind-told w .small) in
-    (s .pre .0, omega arith, omega arith, s .pre .1, room-read (w .with-term3 .result) (s .args .t .quake) (omega arith) (omega arith) h)
-
-with-term-requires-5 : tie.Need-with-term-requires-5
-with-term-requires-5 c κs =
-    let q = c .before in
-    let w = q .before .before in
-    let d = w .before .before in
-    let g = d .before in
-    let o = g .before .before .before .before .before in
-    let s = o .before in
-    let h : natAbs (q .with-term4 .result) + factorMost * natAbs (s .args .t .flood) < 2 ^ 63 =
-    omega (arith, own-told o .1, greater-told g .1, added-told d .1, wind-told w .small, quake-told q .small) in
-    (s .pre .0, omega arith, omega arith, s .pre .1, room-read (q .with-term4 .result) (s .args .t .flood) (omega arith) (omega arith) h)
+    let h : natAbs (c .added .result) + factorMost * singlesSize (s .args .t) < 2 ^ 63 = omega (arith, own-told o .1, greater-told g .1, added-told c .1, s .pre .2 .small) in
+    (s .pre .0, s .pre .1, rw (back (c .added .result) (omega arith)) h)
 
 returns : tie.Need-returns
 unfolding valueOf
 returns c =
-    let q = c .before .before in
-    let w = q .before .before in
-    let d = w .before .before in
+    let d = c .before in
     let g = d .before in
     let o = g .before .before .before .before .before in
     let a = o .before .args in
-    let one = added-told d .0 ∙ (λ i. own-told o .0 i +ℤ greater-told g .0 i) in
-    let two = wind-told w .is ∙ ap (λ (z : ℤ). z +ℤ pos (factorOf (a .s) (a .row) 9) *ℤ a .t .wind) one in
-    let three = quake-told q .is ∙ ap (λ (z : ℤ). z +ℤ pos (factorOf (a .s) (a .row) 10) *ℤ a .t .quake) two in
-    read (c .with-term5 .result) (c .with-term5 .ok) ∙ flood-told c .is ∙ ap (λ (z : ℤ). z +ℤ pos (factorOf (a .s) (a .row) 11) *ℤ a .t .flood) three
+    let one = read (d .added .result) (d .added .ok) ∙ added-told d .0 ∙ (λ i. own-told o .0 i +ℤ greater-told g .0 i) in
+    read (c .with-singles .result) (c .with-singles .ok) ∙ c .with-singles .ensures ∙ ap (λ (z : ℤ). singlesOf (a .s) (a .row) z (a .t)) one
 
 pub value-of-spec : {M : Type 1} → statement M
 value-of-spec =
@@ -178,7 +121,5 @@ value-of-spec =
     with-term-requires-2
     greater-requires
     added-requires
-    with-term-requires-3
-    with-term-requires-4
-    with-term-requires-5
+    with-singles-requires
     returns)

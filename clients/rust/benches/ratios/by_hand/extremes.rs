@@ -2,7 +2,7 @@
 
 use super::cases::{cases, Ends, Ranked, Sums};
 use super::rows::{governing, Terms, ROWS};
-use super::sheet::{Places, Sheet, D, E, F, FA, HP, HV, L, LR, R, S, W};
+use super::sheet::{Places, Sheet, D, DI, E, F, FA, HP, HV, L, LR, R, S, W, WI};
 
 pub struct Extreme {
     pub value: i64,
@@ -51,6 +51,8 @@ struct Direction {
     wind: Ends,
     earthquake: Ends,
     flood: Ends,
+    ice: Ends,
+    wind_on_ice: Ends,
 }
 
 impl Direction {
@@ -70,6 +72,8 @@ impl Direction {
             wind: ends(places[W]),
             earthquake: ends(places[E]),
             flood: ends(places[FA]),
+            ice: ends(places[DI]),
+            wind_on_ice: ends(places[WI]),
         }
     }
 
@@ -87,6 +91,8 @@ impl Direction {
             wind: self.wind.opposite(),
             earthquake: self.earthquake.opposite(),
             flood: self.flood.opposite(),
+            ice: self.ice.opposite(),
+            wind_on_ice: self.wind_on_ice.opposite(),
         }
     }
 
@@ -103,6 +109,8 @@ impl Direction {
             wind: self.wind.up.effect(),
             earthquake: self.earthquake.up.effect(),
             flood: self.flood.up.effect(),
+            ice: self.ice.up.effect(),
+            wind_on_ice: self.wind_on_ice.up.effect(),
         }
     }
 
@@ -120,7 +128,9 @@ impl Direction {
             | one(f.snow, self.snow.up)
             | one(f.wind, self.wind.up)
             | one(f.earthquake, self.earthquake.up)
-            | one(f.flood, self.flood.up);
+            | one(f.flood, self.flood.up)
+            | one(f.ice, self.ice.up)
+            | one(f.wind_on_ice, self.wind_on_ice.up);
         (acting, with(f.earth, self.permanent.cases_below))
     }
 }

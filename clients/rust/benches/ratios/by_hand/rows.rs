@@ -21,11 +21,13 @@ pub struct Factors {
     pub wind: i64,
     pub earthquake: i64,
     pub flood: i64,
+    pub ice: i64,
+    pub wind_on_ice: i64,
 }
 
 /// By row number. The numbers between the two methods are no rows, and all 0.
-pub const ROWS: [Factors; 41] = {
-    let mut rows = [factors(0, [0; 10]); 41];
+pub const ROWS: [Factors; 44] = {
+    let mut rows = [factors(0, [0; 10]); 44];
     // D, F, H, L, L with live option 1, roof, S alone, W, E, Fa
     rows[1] = factors(900, [1400, 1400, 0, 0, 0, 0, 0, 0, 0, 0]);
     rows[2] = factors(900, [1200, 1200, 1600, 1600, 1600, 500, 0, 0, 0, 0]);
@@ -39,6 +41,9 @@ pub const ROWS: [Factors; 41] = {
     rows[10] = flood(rows[7], 1000, 2000);
     rows[11] = flood(rows[5], 500, 1000);
     rows[12] = flood(rows[7], 500, 1000);
+    rows[13] = ice(rows[2], 500, 200, 0);
+    rows[14] = ice(rows[5], 500, 1000, 1000);
+    rows[15] = ice(rows[7], 0, 1000, 1000);
     rows[21] = factors(600, [1000, 1000, 0, 0, 0, 0, 0, 0, 0, 0]);
     rows[22] = factors(600, [1000, 1000, 1000, 1000, 1000, 0, 0, 0, 0, 0]);
     rows[23] = factors(600, [1000, 1000, 1000, 0, 0, 1000, 0, 0, 0, 0]);
@@ -55,6 +60,9 @@ pub const ROWS: [Factors; 41] = {
         rows[36 + i] = flood(rows[25 + i], rows[25 + i].wind, 750);
         i += 1;
     }
+    rows[41] = ice(rows[22], 0, 700, 0);
+    rows[42] = ice(rows[23], 1000, 700, 700);
+    rows[43] = ice(rows[29], 0, 700, 700);
     rows
 };
 
@@ -73,6 +81,8 @@ const fn factors(low: i64, columns: [i64; 10]) -> Factors {
         wind,
         earthquake,
         flood,
+        ice: 0,
+        wind_on_ice: 0,
     }
 }
 
@@ -81,6 +91,16 @@ const fn flood(mut row: Factors, wind: i64, flood: i64) -> Factors {
     row.wind = wind;
     row.earthquake = 0;
     row.flood = flood;
+    row
+}
+
+/// A row with ice, in which W, Lr and R have no factor.
+const fn ice(mut row: Factors, snow: i64, ice: i64, wind_on_ice: i64) -> Factors {
+    row.wind = 0;
+    row.roof = 0;
+    row.snow = snow;
+    row.ice = ice;
+    row.wind_on_ice = wind_on_ice;
     row
 }
 
@@ -100,6 +120,8 @@ pub struct Terms {
     pub wind: i64,
     pub earthquake: i64,
     pub flood: i64,
+    pub ice: i64,
+    pub wind_on_ice: i64,
 }
 
 /// The greatest factored effect of the open rows, and the first row that reaches it.
@@ -115,8 +137,7 @@ pub fn governing(settings: Settings, t: &Terms) -> Governing {
         value: i64::MIN,
         row: 0,
     };
-    // Each row number is a constant where the table is read, so the compiler puts the factors into the products, leaves out those
-    // that are 0 and shares the sums that rows have in common.
+    // Each row number is a constant, so that the compiler folds the factors in, drops those of 0 and shares sums among rows.
     macro_rules! compare {
         ($($row:literal)*) => {{
             $(
@@ -134,12 +155,18 @@ pub fn governing(settings: Settings, t: &Terms) -> Governing {
             1 => compare!(9 10),
             _ => compare!(11 12),
         }
+        if settings.ice {
+            compare!(13 14 15);
+        }
     } else {
         compare!(21 22 23 24 25 26 27 28 29 30);
         match settings.zone {
             0 => {}
             1 => compare!(31 32 33 34 35),
             _ => compare!(36 37 38 39 40),
+        }
+        if settings.ice {
+            compare!(41 42 43);
         }
     }
     best
@@ -164,5 +191,7 @@ impl Factors {
             + self.wind * t.wind
             + self.earthquake * t.earthquake
             + self.flood * t.flood
+            + self.ice * t.ice
+            + self.wind_on_ice * t.wind_on_ice
     }
 }

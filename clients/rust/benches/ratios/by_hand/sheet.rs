@@ -13,12 +13,15 @@ pub const R: usize = 8;
 pub const W: usize = 9;
 pub const E: usize = 10;
 pub const FA: usize = 11;
+pub const DI: usize = 12;
+pub const WI: usize = 13;
 
 #[derive(Clone, Copy)]
 pub struct Settings {
     pub method: u8,
     pub live: u8,
     pub zone: u8,
+    pub ice: bool,
 }
 
 /// The settings of a fresh sheet.
@@ -26,10 +29,11 @@ pub const SETTINGS: Settings = Settings {
     method: 1,
     live: 0,
     zone: 0,
+    ice: false,
 };
 
 /// The cases of each kind, as sets.
-pub type Places = [u32; 12];
+pub type Places = [u32; 14];
 
 #[derive(Clone, Copy)]
 pub struct Sheet {
@@ -58,7 +62,7 @@ impl Sheet {
         Sheet {
             settings,
             kinds: [0; 32],
-            places: [0; 12],
+            places: [0; 14],
             effects: [[[0; 32]; 3]; 16],
             capacities: [[0; 3]; 16],
         }
@@ -81,7 +85,8 @@ impl Sheet {
             }
             (6, &[station, component]) => return asked_extremes(station, component),
             (7, &[station]) => return self.asked_utilisation(station),
-            (1..=7, _) => return Err(2),
+            (8, &[ice]) => self.set_ice(ice)?,
+            (1..=8, _) => return Err(2),
             _ => return Err(1),
         }
         Ok(Asked::Nothing)
@@ -91,13 +96,26 @@ impl Sheet {
         if !(1..=2).contains(&method) || live > 1 || zone > 2 {
             return Err(4);
         }
-        *self = Sheet::fresh(Settings { method, live, zone });
+        *self = Sheet::fresh(Settings {
+            method,
+            live,
+            zone,
+            ice: false,
+        });
+        Ok(())
+    }
+
+    fn set_ice(&mut self, ice: u8) -> Result<(), Refused> {
+        if ice > 1 {
+            return Err(4);
+        }
+        self.settings.ice = ice == 1;
         Ok(())
     }
 
     fn add(&mut self, case: u8, kind: u8) -> Result<(), Refused> {
         let held = self.kinds.get_mut(usize::from(case)).ok_or(5)?;
-        if !(1..=11).contains(&kind) {
+        if !(1..=13).contains(&kind) {
             return Err(7);
         }
         if *held != 0 {
@@ -157,8 +175,16 @@ impl Sheet {
 
     /// Writes the sheet as the fields that make it, and gives how many bytes they have.
     pub fn save(&self, out: &mut [u8]) -> usize {
-        let Settings { method, live, zone } = self.settings;
+        let Settings {
+            method,
+            live,
+            zone,
+            ice,
+        } = self.settings;
         let mut at = put(out, 0, [1, 0, 3, method, live, zone]);
+        if ice {
+            at = put(out, at, [8, 0, 1, 1]);
+        }
         for (case, &kind) in self.kinds.iter().enumerate() {
             if kind == 0 {
                 continue;

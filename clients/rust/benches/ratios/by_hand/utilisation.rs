@@ -6,7 +6,7 @@
 
 use super::cases::{above, cases, greatest};
 use super::rows::{governing, Governing, Terms, ROWS};
-use super::sheet::{Places, Settings, Sheet, D, E, F, FA, HP, HV, L, LR, R, S, W};
+use super::sheet::{Places, Settings, Sheet, D, DI, E, F, FA, HP, HV, L, LR, R, S, W, WI};
 
 pub struct Utilisation {
     pub numerator: u64,
@@ -62,6 +62,7 @@ impl Station<'_> {
         let (roof, snow) = (self.greatest(p[LR] | p[R]), self.greatest(p[S]));
         let (wind, earthquake) = (self.greatest(p[W]), self.greatest(p[E]));
         let flood = self.greatest(p[FA]);
+        let (ice, wind_on_ice) = (self.greatest(p[DI]), self.greatest(p[WI]));
         let terms = |i: usize| Terms {
             dead: dead[i],
             fluid: fluid[i],
@@ -73,6 +74,8 @@ impl Station<'_> {
             wind: wind[i],
             earthquake: earthquake[i],
             flood: flood[i],
+            ice: ice[i],
+            wind_on_ice: wind_on_ice[i],
         };
         let (mut best, mut pattern) = (i64::MIN, 0);
         for i in 0..8 {
@@ -158,7 +161,9 @@ impl Station<'_> {
             | one(with(f.roof, p[LR] | p[R]) | with(f.roof + f.snow, p[S]))
             | one(with(f.wind, p[W]))
             | one(with(f.earthquake, p[E]))
-            | one(with(f.flood, p[FA]));
+            | one(with(f.flood, p[FA]))
+            | one(with(f.ice, p[DI]))
+            | one(with(f.wind_on_ice, p[WI]));
         (acting, above(permanent, |case| -effect(case)))
     }
 }
