@@ -17,14 +17,18 @@ ROWS_SEEN = set()
 
 def named(sheet, station, weights, value):
     """Where several combinations reach the number, the one by docs/DECISIONS.md, "Ties": the first of equal rows; a case acts
-    only where it adds; the first of equal cases of a group; an Hp is low only where that adds. `weights`: weighed effect."""
+    only where it adds, and the F cases only where their sum does; the first of equal cases of a group; an Hp is low only where that
+    adds. `weights`: weighed effect."""
     e = {c: sum(w * x for w, x in zip(weights, sheet.eff(c, station))) for c in sheet.kind}
+    full = sum(e[c] for c, k in sheet.kind.items() if k == F) > 0
     reach = []
     for row, terms, acting, low in sheet.combos():
         if sum(fa * e[c] for c, fa, _ in terms) != value:
             continue
         free = [c for c, _, _ in terms if sheet.kind[c] not in (D, F, HP)]
         if any(e[c] <= 0 for c in free) or any(l != (e[c] < 0) for c, _, l in terms if sheet.kind[c] == HP):
+            continue
+        if not full and any(sheet.kind[c] == F for c, _, _ in terms):
             continue
         reach.append((row, sorted(free), acting, low))
     row, _, acting, low = min(reach)
@@ -217,7 +221,7 @@ def orders():
 
 BY_HAND = [(0, 0), (250000, -110000), (225000, None), (25000000, 25000000), (25000000, 24900000), (55000, -80000), (100000, None), (120000, None),
          (100000, None), (46500, None), (100000, None), (160000, None)]
-BY_HAND_ROW = {9: 28, 10: 7}
+BY_HAND_ROW = {9: 28, 10: 5}
 
 
 def frames_by_hand():
@@ -236,7 +240,7 @@ def frames_by_hand():
     return b
 
 
-KINDS = [D, F, HP, HV, L, LR, S, R, W, E, FA, W, FA, E, HP, DI, WI, DI, WI]
+KINDS = [D, F, HP, HV, L, LR, S, R, W, E, FA, W, FA, E, HP, DI, WI, DI, WI, F]
 
 
 def settings():
@@ -276,8 +280,8 @@ def search(tries, seed):
             top = rng.choice([20, 100, 400, 1500])
             return rng.choice([-1, 1]) * rng.randint(1, top)
         values = [tuple(num(k) for _ in range(3)) for k in KINDS]
-        # the second W, Fa, E, Hp, Di and Wi pull the other way
-        for a, b in ((8, 11), (10, 12), (9, 13), (2, 14), (15, 17), (16, 18)):
+        # the second W, Fa, E, Hp, Di, Wi and F pull the other way
+        for a, b in ((8, 11), (10, 12), (9, 13), (2, 14), (15, 17), (16, 18), (1, 19)):
             values[b] = tuple((-1 if x > 0 else 1) * abs(y) for x, y in zip(values[a], values[b]))
         cap = tuple(rng.randint(200, 3000) for _ in range(3))
         got = unique_station(values, cap)
@@ -288,7 +292,7 @@ def search(tries, seed):
 
 
 def every_setting():
-    """Point 5: methods, zones, live options and ice, a case of each kind (W, E, Fa, Hp, Di and Wi twice), five stations, no ties."""
+    """Point 5: methods, zones, live options and ice, a case of each kind (F, W, E, Fa, Hp, Di and Wi twice), five stations, no ties."""
     b = b''
     assert all(unique_station(v, c) for _, v, c in STATIONS)
     for me, li, zo, ice in settings():
@@ -327,6 +331,20 @@ def ice():
     return b
 
 
+def fluid():
+    """Point 9: sheets with F worked by hand, named by the tie rule; F cases of mixed signs in looks at all components and utilisations."""
+    m.check_fluid()
+    sheets = m.fluid_sheets()
+    for fields, (cases, _, hi, lo, *_, full, full_lo) in zip(sheets, m.FLUID_WORKED):
+        got = struct.unpack('>qBIIqBII', run(b''.join(fields))[1][-1][1][3:])
+        tank = sum(1 << i for i, (k, _) in enumerate(cases) if k == F)
+        assert (got[0], got[4]) == (hi, lo), (cases, got)
+        assert got[2] & tank == (tank if full else 0) and got[6] & tank == (tank if full_lo else 0), (cases, got)
+    b = b''.join(b''.join(fields) for fields in sheets + [m.fluid_rows(), m.fluid_utilisations()])
+    due(b, [])
+    return b
+
+
 def long_fields():
     """Whole fields of the greatest length: an unknown tag, a known one; the sheet stays."""
     look = f(6, 0, 0) + f(7, 0)
@@ -338,7 +356,7 @@ def long_fields():
 
 POINTS = {'1_worked_exchange_p2': lambda: P2_IN, '2_each_refusal': refusals, '3_refusal_orders': orders, '4_p1_to_p10': frames_by_hand,
           '5_methods_zones_live_options': every_setting, '6_groups': groups, '7_long_fields': long_fields,
-          '8_ice': ice}
+          '8_ice': ice, '9_fluid': fluid}
 BUFFER = 65536  # what `frames` reads in one turn, at most
 
 

@@ -90,20 +90,24 @@ class Sheet:
         """Every admissible combination: (row, {case: factor}, acting mask, low mask), by building them."""
         low = 900 if self.method == 1 else 600
         for row, cols in rows(self.method, self.zone, self.ice).items():
-            choices = []
+            choices, fluid = [], ()
             groups = {g: [] for g in GROUPS.values()}
             for c, k in sorted(self.kind.items()):
                 f = column_factor(cols, k, self.live)
                 if not f:
                     continue
-                if k in (D, F):
+                if k == D:
                     choices.append([((c, f, False),)])
+                elif k == F:
+                    fluid += ((c, f, False),)
                 elif k == HP:
                     choices.append([((c, f, False),), ((c, low, True),)])
                 elif k in (L, HV):
                     choices.append([(), ((c, f, False),)])
                 else:
                     groups[GROUPS[k]].append((c, f, False))
+            if fluid:
+                choices.append([(), fluid])
             for g in groups.values():
                 choices.append([()] + [(x,) for x in g])
             for pick in itertools.product(*choices):
@@ -265,11 +269,55 @@ ICE_WORKED = [
     ([(L, 100), (DI, 200)], dict(live=1, ice=1), 250000, 0, 14, None),
     ([(L, 200), (DI, 100)], dict(live=1, ice=1), 340000, 0, 13, None),
     ([(L, 100), (DI, 200)], dict(method=2, live=1, ice=1), 240000, 0, 41, None),
-    # F has no factor in rows 15 and 43; Hp may take the low factor
-    ([(F, -30), (WI, 100)], dict(ice=1), 100000, -42000, 15, 1),
-    ([(F, -30), (WI, 100)], dict(method=2, ice=1), 70000, -30000, 43, None),
+    # Hp may take the low factor
     ([(WI, 100), (HP, -50)], dict(ice=1), 55000, -80000, None, None),
     ([(WI, 100), (HP, -50)], dict(method=2, ice=1), 40000, -50000, None, None),
+]
+
+# Sheets with F worked by hand: cases, settings, maximum, minimum, the row of each that is the only one to reach it, and whether the F
+# cases act in each. None where the combinations that reach the number differ in that.
+FLUID_WORKED = [
+    # the empty tank governs, or the full one
+    ([(E, -100), (F, 30)], dict(), 42000, -100000, 1, None, True, False),
+    ([(E, -100), (F, 30)], dict(method=2), 30000, -70000, None, None, True, False),
+    ([(D, 100), (F, 40)], dict(), 196000, 90000, 1, None, True, False),
+    ([(D, 100), (F, -40), (L, 50)], dict(), 200000, 54000, 2, 8, False, True),
+    ([(D, 100), (F, -40), (L, 50)], dict(method=2), 150000, 36000, 22, 30, False, True),
+    # several F cases act together or not at all, by the sign of their sum
+    ([(F, 50), (E, -100), (F, -20)], dict(), 42000, -100000, 1, None, True, False),
+    ([(F, -50), (W, 100), (F, 20)], dict(), 100000, -42000, None, 1, False, True),
+    ([(F, -50), (W, 100), (F, 20)], dict(method=2), 60000, -30000, None, None, False, True),
+    ([(F, 50), (E, -100), (F, -50)], dict(), 0, -100000, None, None, None, None),
+    # rows without F have none: 7, 29 and the flood and ice rows on them
+    ([(D, -100), (F, 10), (W, 300)], dict(), 210000, -140000, 7, 1, False, False),
+    ([(D, -100), (F, 10), (W, 300)], dict(method=2), 120000, -100000, 29, None, False, False),
+    ([(D, -100), (F, 10), (W, 100), (FA, 100)], dict(zone=1), 210000, -140000, 10, 1, False, False),
+    ([(D, -100), (F, 10), (W, 100), (FA, 100)], dict(zone=2), 60000, -140000, 12, 1, False, False),
+    ([(D, -100), (F, 10), (W, 100), (FA, 100)], dict(method=2, zone=1), 150000, -100000, 35, None, False, False),
+    ([(D, -100), (F, 10), (W, 100), (FA, 100)], dict(method=2, zone=2), 75000, -100000, 40, None, False, False),
+    ([(D, -100), (F, 10), (WI, 300)], dict(ice=1), 210000, -140000, 15, 1, False, False),
+    ([(D, -100), (F, 10), (WI, 300)], dict(method=2, ice=1), 150000, -100000, 43, None, False, False),
+    # flood rows
+    ([(F, -40), (FA, 50), (L, 30)], dict(zone=1), 130000, -56000, 9, 1, False, True),
+    ([(F, 60), (FA, -50), (L, -30), (F, -20)], dict(zone=2), 56000, -80000, 1, 11, True, False),
+    ([(F, 40), (FA, 50)], dict(zone=1), 148000, 0, 9, None, True, False),
+    # ice rows
+    ([(F, -40), (DI, 100), (L, 300)], dict(ice=1), 500000, -56000, 13, 1, False, True),
+    ([(F, -40), (DI, 100), (L, 30)], dict(ice=1), 130000, -56000, 14, 1, False, True),
+    ([(F, 40), (DI, 100), (WI, 50)], dict(ice=1), 198000, 0, 14, None, True, False),
+    ([(F, -70), (DI, 100), (L, 100), (F, 30)], dict(method=2, ice=1), 170000, -40000, 41, None, False, True),
+    ([(F, -40), (DI, 100), (WI, 50), (S, 10)], dict(method=2, ice=1), 115000, -40000, 42, None, False, True),
+]
+# Further rows that govern alone without F: settings, a sign for all effects, kinds from place 0 on, and steps, each the effects that it
+# sets, the extreme on the side of the sign, and its row.
+FLUID_ROWS = [
+    (dict(), 1, [F, LR, L, W], [({0: -40, 1: 100, 2: 50}, 210000, 3), ({3: 110}, 215000, 4)]),
+    (dict(method=2), -1, [D, F, W, E, L, LR],
+     [({0: 100, 1: -40, 2: 100}, 160000, 25), ({3: 120}, 184000, 26), ({4: 100, 5: 200}, 370000, 27)]),
+    (dict(method=2, zone=1), 1, [D, F, W, FA, L, LR],
+     [({0: 100, 1: -40, 2: 100, 3: 100}, 310000, 31), ({4: 100, 5: 100}, 445000, 33)]),
+    (dict(method=2, zone=2), -1, [D, F, W, FA, L, LR],
+     [({0: 100, 1: -40, 2: 100, 3: 100}, 235000, 36), ({4: 100, 5: 100}, 370000, 38)]),
 ]
 
 
@@ -283,13 +331,13 @@ def capacity(rng):
 
 
 # Seeds of sheets that between them show a change of 50 thousandths in any factor, and of 100 in any blank, of the rows;
-# but for 39 of the 566 changes, in rows 24, 32, 34, 37 and 39, that no sheet is known to show: rows 27, 31, 33, 36 and 38
+# but for 44 of the 566 changes, in rows 24, 32, 34, 37 and 39, that no sheet is known to show: rows 27, 31, 33, 36 and 38
 # have all of those rows' combinations, and the change stays between what they allow. Found by a search.
-SHOWING = [12154, 36977, 45043, 49341, 26303, 6421, 40418, 2126, 6729, 32514, 31733, 42647, 38221, 37425, 237, 46471, 7534,
-           30261, 311, 5432, 6395, 1367, 1828, 9527, 41865, 44027, 22083, 35487, 14, 15985, 1458, 6174, 52864, 4466, 6402,
-           10990, 15488, 37062, 90, 154, 400, 426]
+SHOWING = [29789, 17477, 758, 56874, 3096, 22380, 45835, 53600, 58822, 36423, 1828, 30786, 18463, 24532, 32038, 35897, 53136,
+           15985, 29611, 1757, 50712, 42799, 2095, 9854, 42179, 13787, 27686, 13223, 6208, 6972, 16640, 51114, 57464, 3936,
+           6845, 14507, 36304, 5123, 6216, 20945, 26556, 23924, 42113, 4845, 52726, 3923, 37062, 1526, 5713, 2949]
 # The same for the ice rows, Lr and R apart: all 106 changes.
-SHOWING_ICE = [10097, 7031, 10980, 2172, 234, 2454, 145, 284, 1395, 659, 2, 318, 444, 458, 9889]
+SHOWING_ICE = [3625, 5230, 961, 5725, 10693, 3267, 11222, 548, 4787, 25, 8134, 12330, 4193, 3920]
 
 
 def showing(seed, ice=0):
@@ -364,6 +412,8 @@ def generate(rng, looks=185):
         stations = rng.sample(range(16), 2) if turn % 3 else [0, 15]
         n = rng.randint(0, 7) if turn % 4 else 7
         kinds = [(turn + i) % WI + 1 for i in range(n)] if turn % 2 else [rng.randint(D, WI) for _ in range(n)]
+        if rng.random() < .3:  # several F cases
+            kinds[:3] = [F] * min(n, 3)
         places = rng.sample(range(32), n) if turn % 5 else [31 - i for i in range(n)]
         for c, k in zip(places, kinds):
             out.append(f(2, c, k))
@@ -404,12 +454,11 @@ def together(ice=0):
     out = []
     for method, zone in [(1, 0), (1, 1), (1, 2), (2, 0), (2, 1), (2, 2)]:
         for kinds in TOGETHER_ICE if ice else TOGETHER:
-            for sign in (1, -1):
-                out += [f(1, method, zone % 2, zone)] + [f(8, 1)] * ice
-                for c, k in enumerate(kinds):
-                    v = sign * (100 + 10 * c)
-                    out += [f(2, c, k), f(3, c, 8, effects(v, 2 * v, -v))]
-                out += [f(5, 8, caps(300, 500, 400))] + [f(6, 8, k) for k in range(3)] + [f(7, 8)]
+            out += [f(1, method, zone % 2, zone)] + [f(8, 1)] * ice
+            for c, k in enumerate(kinds):
+                v = 100 + 10 * c
+                out += [f(2, c, k), f(3, c, 8, effects(v, 2 * v, -v)), f(3, c, 9, effects(-v, -2 * v, v))]
+            out += [f(5, st, caps(300, 500, 400)) for st in (8, 9)] + [f(6, 8, k) for k in range(3)] + [f(7, 8), f(7, 9)]
     return out
 
 
@@ -425,6 +474,36 @@ def saved_forms():
 def ice_sheets():
     """ICE_WORKED as fields, each with its look."""
     return [sheet(cases, **how) + [f(6, 0, 0)] for cases, how, *_ in ICE_WORKED]
+
+
+def fluid_sheets():
+    """FLUID_WORKED as fields, each with its look."""
+    return [sheet(cases, **how) + [f(6, 0, 0)] for cases, how, *_ in FLUID_WORKED]
+
+
+def fluid_rows():
+    """FLUID_ROWS as fields, with a look after each step."""
+    out = []
+    for how, sign, kinds, steps in FLUID_ROWS:
+        out += sheet([], **how) + [f(2, c, k) for c, k in enumerate(kinds)]
+        for step, _, _ in steps:
+            out += [f(3, c, 0, effects(sign * n, 0, 0)) for c, n in step.items()] + [f(6, 0, 0)]
+    return out
+
+
+def fluid_utilisations():
+    """Three F cases whose sum is above 0 on one component and below 0 or 0 on another, beside loads that oppose it; then with the sum
+    turned, and with a case less."""
+    out = []
+    looks = [f(6, 2, k) for k in range(3)] + [f(7, 2), f(7, 13)]
+    for turn, (method, zone) in enumerate([(1, 1), (2, 1), (1, 2), (2, 2)]):
+        out += [f(1, method, turn % 2, zone)] + [f(8, 1)] * (turn in (0, 3))
+        for c, k, e, g in ((0, E, (-100, 40, 7), (60, -80, 35)), (3, F, (60, -25, 0), (-70, 30, 10)), (7, FA, (-15, 8, 20), (25, -30, 4)),
+                           (9, F, (-20, -5, 40), (40, -45, -10)), (30, DI, (-12, 33, 6), (90, 3, -8)), (31, F, (5, 10, -40), (-9, 15, 3))):
+            out += [f(2, c, k), f(3, c, 2, effects(*e)), f(3, c, 13, effects(*g))]
+        out += [f(5, 2, caps(100 + 90 * turn, 200, 150)), f(5, 13, caps(150, 60 + 80 * turn, 90))] + looks
+        out += [f(3, 3, 2, effects(-25, 60, 7))] + looks[:4] + [f(4, 3)] + looks[3:]
+    return out
 
 
 def ice_switch():
@@ -479,7 +558,7 @@ def check_worked(rng):
         if want == 46500:
             assert a[11] == 28
         if fields[0] == f(1, 1, 0, 0) and fields[1:2] == [f(2, 0, F)]:
-            assert a[11] == 7
+            assert a[11] in (5, 7)
 
 
 def check_ice(rng):
@@ -493,14 +572,46 @@ def check_ice(rng):
         assert want[2] in (None, row_hi) and want[3] in (None, row_lo), (want, row_hi, row_lo)
 
 
+def reaching(s, sign):
+    """The greatest N at station 0 (sign 1) or the least (-1), the row and whether the F cases act, each None where it is not one for all
+    combinations that reach the number."""
+    fluid = sum(1 << c for c, k in s.kind.items() if k == F)
+    every = [(sign * sum(fa * s.eff(c, 0)[0] for c, fa, _ in t), r, a & fluid) for r, t, a, _ in s.combos()]
+    assert all(a in (0, fluid) for _, _, a in every)
+    best = max(every)[0]
+    found = [{r for x, r, _ in every if x == best}, {a > 0 for x, _, a in every if x == best}]
+    return [sign * best] + [x.pop() if len(x) == 1 else None for x in found]
+
+
+def check_fluid():
+    """The sheets with F give the numbers worked by hand, in these rows, with the F cases and without."""
+    for fields, (_, _, *want) in zip(fluid_sheets(), FLUID_WORKED):
+        s = Sheet()
+        for b in fields[:-1]:
+            s, _ = serve(s, b, None)
+        (hi, row_hi, full_hi), (lo, row_lo, full_lo) = reaching(s, 1), reaching(s, -1)
+        assert [hi, lo, row_hi, row_lo, full_hi, full_lo] == want, (fields, want)
+    due = [[sign * n, row, False] for _, sign, _, steps in FLUID_ROWS for _, n, row in steps]
+    signs = [sign for _, sign, _, steps in FLUID_ROWS for _ in steps]
+    s, found = Sheet(), []
+    for b in fluid_rows():
+        if b[0] == 6:
+            found.append(reaching(s, signs[len(found)]))
+        else:
+            s, _ = serve(s, b, None)
+    assert found == due, (found, due)
+
+
 def main():
     here = os.path.dirname(os.path.abspath(__file__))
     rng = random.Random(20)
     check_worked(rng)
     check_ice(rng)
+    check_fluid()
     # The last readings get a 3, where a service stops: a length above 60,000, and a field that is cut short.
     ice = [b for fields in ice_sheets() for b in fields] + ice_switch()
-    fields = before_any_settings() + generate(rng) + together() + saved_forms() + ice + long_fields() + [bytes.fromhex('01000301')]
+    fluid = [b for fields in fluid_sheets() for b in fields] + fluid_rows() + fluid_utilisations()
+    fields = before_any_settings() + generate(rng) + together() + saved_forms() + ice + fluid + long_fields() + [bytes.fromhex('01000301')]
     s, answers = Sheet(), []
     for b in fields:
         s, a = serve(s, b, rng)

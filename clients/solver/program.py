@@ -1,8 +1,9 @@
 """A look as a 0/1 program in CPLEX LP format.
 
 A disjunct is an open row with three weights; its objective is the weighted sum of the three factored effects. One binary variable
-for each disjunct chooses it, and each has its own binary variables: one for each case that may act or not, one for each acting Hp
-case, which may take the low factor. Cases that always act need no variable: they count in the disjunct's coefficient.
+for each disjunct chooses it, and each has its own binary variables: one for each case that may act or not by itself, one for all F
+cases together, one for each acting Hp case, which may take the low factor. Cases that always act need no variable: they count in the
+disjunct's coefficient.
 
 The program is exact. One disjunct is chosen, and a variable of another is 0, since each is bounded by its disjunct's variable.
 Within the chosen disjunct the constraints are the rules on acting, no more and no less. So the 0/1 points are the pairs of a
@@ -18,7 +19,7 @@ from itertools import product
 from math import gcd
 
 from solvers import SolverFailed
-from standard import ALWAYS_ACTING, ANY_SUBSET, AT_MOST_ONE, Case, Combination, Kind, Sheet
+from standard import ALL_OR_NONE, ALWAYS_ACTING, ANY_SUBSET, AT_MOST_ONE, Case, Combination, Kind, Sheet
 from standard import capacity_products, low_factor, open_rows
 
 Weights = tuple[int, ...]
@@ -26,10 +27,10 @@ Weights = tuple[int, ...]
 
 @dataclass(frozen=True)
 class Variable:
-    """A disjunct's variable (case is None), or that a case acts, or that an acting Hp case takes the low factor."""
+    """A disjunct's variable (no cases), or that its cases act, or that an acting Hp case takes the low factor."""
 
     row: int
-    case: int | None
+    cases: frozenset[int]
     low: bool
     coefficient: int
 
@@ -67,20 +68,24 @@ def add_disjunct(program: Program, row: int, weights: Weights) -> str:
     sheet, factors = program.sheet, open_rows(program.sheet)[row]
     present = {k: case for k, case in sheet.cases.items() if factors[case.kind] != 0}
     always = sum(factors[c.kind] * weighted(c, weights) for c in present.values() if c.kind in ALWAYS_ACTING)
-    disjunct = program.add(Variable(row, None, False, always))
+    disjunct = program.add(Variable(row, frozenset(), False, always))
 
-    def acts(k: int) -> str:
-        return program.add(Variable(row, k, False, factors[present[k].kind] * weighted(present[k], weights)))
+    def acts(*cases: int) -> str:
+        effect = sum(factors[present[k].kind] * weighted(present[k], weights) for k in cases)
+        return program.add(Variable(row, frozenset(cases), False, effect))
 
     def at_low(k: int) -> str:
         lowered = low_factor(sheet) - factors[Kind.HP]
-        return program.add(Variable(row, k, True, lowered * weighted(present[k], weights)))
+        return program.add(Variable(row, frozenset({k}), True, lowered * weighted(present[k], weights)))
 
     for k, case in present.items():
         if case.kind in ANY_SUBSET:
             program.constraints.append(f"{acts(k)} - {disjunct} <= 0")
         elif case.kind == Kind.HP:
             program.constraints.append(f"{at_low(k)} - {disjunct} <= 0")
+    fluid = [k for k, case in present.items() if case.kind in ALL_OR_NONE]
+    if fluid:
+        program.constraints.append(f"{acts(*fluid)} - {disjunct} <= 0")
     for group in AT_MOST_ONE:
         members = [acts(k) for k, case in present.items() if case.kind in group]
         if members:
@@ -104,7 +109,7 @@ def greatest_coefficient(program: Program) -> int:
 def tolerance(program: Program) -> int:
     """How far below the optimum a solver's combination may be.
 
-    A case's variable stands in one constraint, with coefficient 1, and the disjuncts' variables meet in the last constraint alone.
+    A variable of cases stands in one constraint, with coefficient 1, and the disjuncts' variables meet in the last constraint alone.
     So every basis has determinant 1 or -1: vertices are 0/1, and reduced costs are integers in the program's unit. On near ties
     GLPK was seen to find a reduced cost of 1e-10 of the greatest coefficient, CBC a smaller one. Below 1e9 a reduced cost other
     than 0 is at least ten times that, so no better vertex is missed and the tolerance is 0. So it is for every extreme: factors are
@@ -143,12 +148,12 @@ def broken(text: str) -> str:
 def combination_of(program: Program, values: list[int]) -> Combination:
     """The combination that the values 0 and 1 of the variables state."""
     chosen = [v for v, value in zip(program.variables, values, strict=True) if value == 1]
-    rows = [v.row for v in chosen if v.case is None]
+    rows = [v.row for v in chosen if not v.cases]
     if len(rows) != 1:
         raise SolverFailed(f"the solver chose {len(rows)} disjuncts")
     factors = open_rows(program.sheet)[rows[0]]
     cases = program.sheet.cases.items()
     always = {k for k, case in cases if case.kind in ALWAYS_ACTING and factors[case.kind] != 0}
-    acting = {v.case for v in chosen if v.case is not None and not v.low}
-    low = {v.case for v in chosen if v.case is not None and v.low}
-    return Combination(rows[0], frozenset(always | acting), frozenset(low))
+    acting = always.union(*(v.cases for v in chosen if not v.low))
+    low = frozenset().union(*(v.cases for v in chosen if v.low))
+    return Combination(rows[0], frozenset(acting), low)

@@ -24,7 +24,8 @@ class Kind(IntEnum):
 
 
 STRENGTH, ALLOWABLE = 1, 2
-ALWAYS_ACTING = frozenset({Kind.D, Kind.F, Kind.HP})
+ALWAYS_ACTING = frozenset({Kind.D, Kind.HP})
+ALL_OR_NONE = frozenset({Kind.F})
 ANY_SUBSET = frozenset({Kind.L, Kind.HV})
 AT_MOST_ONE = (
     frozenset({Kind.LR, Kind.S, Kind.R}), frozenset({Kind.W}), frozenset({Kind.E}), frozenset({Kind.FA}), frozenset({Kind.DI}),
@@ -147,6 +148,9 @@ def inadmissible(sheet: Sheet, combination: Combination) -> str | None:
     for k, case in sheet.cases.items():
         if case.kind in ALWAYS_ACTING and row[case.kind] != 0 and k not in combination.acting:
             return f"case {k} must act"
+    fluid = {k for k, case in sheet.cases.items() if case.kind in ALL_OR_NONE and row[case.kind] != 0}
+    if combination.acting & fluid not in (frozenset(), fluid):
+        return "some F cases act and others do not"
     for group in AT_MOST_ONE:
         if sum(sheet.cases[k].kind in group for k in combination.acting) > 1:
             return f"two cases of {'/'.join(kind.name for kind in sorted(group))} act"

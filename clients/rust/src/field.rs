@@ -53,7 +53,7 @@ pub struct Settings {
 pub enum Kind {
     /// D, dead load.
     Dead = 1,
-    /// F, fluid.
+    /// F, fluid: all cases act together, or none.
     Fluid = 2,
     /// H that is permanent: each case takes the full or the low factor, whichever governs.
     EarthPermanent = 3,

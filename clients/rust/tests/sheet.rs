@@ -117,7 +117,38 @@ fn p9_fluid_left_out() {
         Settings::default(),
         &[(Kind::Fluid, -30), (Kind::Wind, 100)],
     );
-    assert_eq!((x.maximum.value, x.maximum.row.number()), (100_000, 7));
+    assert_eq!((x.maximum.value, x.maximum.acting), (100_000, 0b10));
+    assert!(matches!(x.maximum.row.number(), 5 | 7));
+    assert_eq!((x.minimum.value, x.minimum.acting), (-42_000, 0b01));
+}
+
+#[test]
+fn fluids_act_together_or_not_at_all() {
+    let one = [(Kind::Earthquake, -100), (Kind::Fluid, 30)];
+    let x = extremes(Settings::default(), &one);
+    assert_eq!((x.maximum.value, x.maximum.acting), (42_000, 0b10));
+    assert_eq!((x.minimum.value, x.minimum.acting), (-100_000, 0b01));
+    let two = [one[0], (Kind::Fluid, 50), (Kind::Fluid, -20)];
+    let x = extremes(Settings::default(), &two);
+    assert_eq!((x.maximum.value, x.maximum.acting), (42_000, 0b110));
+    assert_eq!((x.minimum.value, x.minimum.acting), (-100_000, 0b001));
+}
+
+#[test]
+fn utilisation_without_the_fluid() {
+    let mut sheet = sheet(
+        Settings::default(),
+        &[(Kind::Earthquake, -100), (Kind::Fluid, 30)],
+    );
+    let capacities = Capacities {
+        n: 100,
+        my: 10,
+        mz: 10,
+    };
+    sheet.set_capacities(0, capacities).unwrap();
+    let u = sheet.utilisation(0).unwrap();
+    assert_eq!((u.numerator, u.denominator), (10_000_000, 10_000_000));
+    assert_eq!((u.pass, u.acting), (true, 0b01));
 }
 
 #[test]

@@ -12,6 +12,7 @@ use Rattle.wire.proofs.Cases.{eq-or-ne}
 use Rattle.sheet.specs.declared.Sheet.{Sheet}
 use Rattle.sheet.specs.declared.Answer.the-variants as answer
 use Rattle.sheet.specs.declared.Answered.{Answered}
+use Rattle.standard.proofs.EmptyTank.{empty-tank-considered}
 use Rattle.sheet.specs.Sheet.{freshSheet, kindAt, effectAt, capacityAt}
 use Rattle.sheet.specs.Looks.{stationEffects, capacitiesAt, extremesAt, utilisationAt, lookedExtremes, lookedUtilisation}
 use Rattle.refusals.specs.Refusals.{dueExtremes, dueUtilisationAt}
@@ -139,7 +140,7 @@ module _ (w : Sheet) (h : InRange w) where
   }
 
   third : Demand3 w w
-  third = record { extremes = extremes-answered; utilisation = utilisation-answered }
+  third = record { extremes = extremes-answered; utilisation = utilisation-answered; empty-tank = empty-tank-considered (w .settings) (kindAt w) }
 
 -- what holds of the sheet worked out, held by the service
 module _ (ms : List Made) {s : Sheet} (r : Readings freshSheet ms s) where

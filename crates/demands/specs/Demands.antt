@@ -6,7 +6,7 @@ use mathlib.Core.List.{List, _∷_}
 use lib.ListN.{length, take}
 use Rattle.wire.specs.Bytes.{over}
 use Rattle.standard.specs.Combination.{Combination, caseCount, named}
-use Rattle.standard.specs.Governing.{Maximum, Minimum, Utilisation}
+use Rattle.standard.specs.Governing.{EmptyTankConsidered, Maximum, Minimum, Utilisation}
 use Rattle.envelope.specs.Range.{stationCount, componentCount}
 use Rattle.envelope.specs.declared.Extreme.{Extreme}
 use Rattle.envelope.specs.declared.Extremes as extremes
@@ -113,6 +113,8 @@ pub record Demand3 (w s : Sheet) : Type 0 where
       m .input ≡ lookExtremes station component rest → ReadOn s m → ExtremesAnswered w station component m
   pub utilisation : (station : ℕ) → station < 16 → 0 < capacityAt w station 0 → (m : Made) (rest : List ℕ) → answerRoom ≤ length (m .out) →
       m .input ≡ lookUtilisation station rest → ReadOn s m → UtilisationAnswered w station m
+  -- among the combinations that these go over is, with each, the same with the tank empty (SCOPE 4.2)
+  pub empty-tank : EmptyTankConsidered (w .settings) (kindAt w)
 
 -- The three demands. After any list of readings, the first on a fresh sheet and each later one on the sheet that the one before
 -- returned, they hold of the sheet worked out from the list and of the sheet that the last reading returned (SCOPE 9.1, 9.2).

@@ -1,14 +1,15 @@
 -- What `sums` holds of each kind, in the four directions of the weighed effects. Nothing here needs to be believed.
 use Prim.Native.Nat.{ℕ, _≤_}
 use mathlib.Core.Bool.{Bool, true, false}
-use mathlib.Core.List.{List}
+use mathlib.Core.List.{List, [], _∷_}
 use lib.IntN.{ℤ, _*ℤ_, natAbs}
+use lib.ListN.{getD}
 use Rattle.envelope.specs.declared.Weights.{Weights}
 use Rattle.envelope.specs.Range.{effectMost}
 use Rattle.envelope.specs.Directions.{signsBy}
 use Rattle.directions.specs.declared.Directions.{Directions}
 use Rattle.directions.specs.declared.FourSides.{FourSides}
-use Rattle.sums.specs.Sums.{sidesIn, sidesWith, SidesInRange, SidesRoom, SumsOf}
+use Rattle.sums.specs.Sums.{sidesIn, sidesWith, SidesInRange, SidesRoom, fluidActs, SumsOf}
 
 abbrev pub directionsOf : ℤ → ℤ → ℤ → Directions
 directionsOf a b c = record { first = signsBy false false a b c; second = signsBy true false a b c; third = signsBy false true a b c; fourth = signsBy true true a b c }
@@ -58,3 +59,11 @@ pub record FourOf (s0 s1 s2 s3 places : List ℕ) (d : ℕ → Directions) (m : 
   pub second : SumsOf s1 places (λ k. d k .second) m
   pub third : SumsOf s2 places (λ k. d k .third) m
   pub fourth : SumsOf s3 places (λ k. d k .fourth) m
+
+-- by pattern of signs, what the sums of its direction say: pattern 7 - i is the opposite of pattern i
+abbrev pub eightBy : {A : Type 0} → (List ℕ → ℕ → ℕ → A) → (s0 s1 s2 s3 : List ℕ) → A → ℕ → A
+eightBy f s0 s1 s2 s3 else i = getD (f s0 0 1 ∷ f s1 0 1 ∷ f s2 0 1 ∷ f s3 0 1 ∷ f s3 1 0 ∷ f s2 1 0 ∷ f s1 1 0 ∷ f s0 1 0 ∷ []) i else
+
+-- whether the F cases act
+abbrev pub fluidIn : (s0 s1 s2 s3 : List ℕ) → ℕ → Bool
+fluidIn s0 s1 s2 s3 = eightBy fluidActs s0 s1 s2 s3 false

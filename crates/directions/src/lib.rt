@@ -8,7 +8,7 @@ ghost use Rattle.standard.specs.Kinds.{kindCount};
 ghost use Rattle.envelope.specs.Range.{effectOf, effectLimit, weightMost, EffectsInRange, WeightsInRange};
 ghost use Rattle.envelope.specs.Places.{PlacesInRange};
 ghost use Rattle.sums.specs.Sums.{sidesPut, sumCount};
-ghost use Rattle.directions.specs.Four.{directionsOf, directed, fourWith, FourRoom, FourInRange, fourIn, FourOf};
+ghost use Rattle.directions.specs.Four.{directionsOf, directed, fourWith, FourRoom, FourInRange, fourIn, FourOf, fluidIn};
 use envelope::Weights;
 use standard::KINDS;
 use sums::Sides;
@@ -137,5 +137,28 @@ pub fn four_sums_of(
         let f = four_sides_of(sums::acts_alone(kind), places[kind], effects, w);
         put_four(s0, s1, s2, s3, kind, f);
         kind += 1;
+    }
+}
+
+// Whether the F cases act for a pattern of signs: pattern 7 - i is the opposite of pattern i.
+pub fn fluid_in<'a>(
+    s0: &'a [u64],
+    s1: &'a [u64],
+    s2: &'a [u64],
+    s3: &'a [u64],
+    pattern: usize,
+) -> bool
+    requires { ⌜ (length (now s0) ≡ sumCount) × (length (now s1) ≡ sumCount) × (length (now s2) ≡ sumCount) × (length (now s3) ≡ sumCount) × (pattern < 8) ⌝ }
+    ensures { λ r. ⌜ r ≡ fluidIn (now (s0 .entry)) (now (s1 .entry)) (now (s2 .entry)) (now (s3 .entry)) pattern ⌝ }
+{
+    match pattern {
+        0 => sums::fluid_acts(s0, 0, 1),
+        1 => sums::fluid_acts(s1, 0, 1),
+        2 => sums::fluid_acts(s2, 0, 1),
+        3 => sums::fluid_acts(s3, 0, 1),
+        4 => sums::fluid_acts(s3, 1, 0),
+        5 => sums::fluid_acts(s2, 1, 0),
+        6 => sums::fluid_acts(s1, 1, 0),
+        _ => sums::fluid_acts(s0, 1, 0),
     }
 }

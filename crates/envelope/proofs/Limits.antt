@@ -10,15 +10,17 @@ use lib.Dec.{eqb}
 use lib.IntN.{ℤ, pos, negℤ, _+ℤ_, _*ℤ_, natAbs}
 use Rattle.integers.specs.Sums.{when, sum, most, up, down}
 use Rattle.integers.proofs.Signs.{abs-add, abs-mul, abs-negated, abs-parts}
-use Rattle.integers.proofs.Sums.{when-le, sum-most, most-le}
+use Rattle.integers.proofs.Sums.{when-le, sum-plus, sum-most, most-le}
 use Rattle.standard.specs.declared.Settings.{Settings}
 use Rattle.standard.specs.declared.Class.{Class}
-use Rattle.standard.specs.declared.Class.the-variants.{Always, Subset, OneOf, Unknown}
-use Rattle.standard.specs.Kinds.{classOf, groupCount, permanentEarth}
+use Rattle.standard.specs.declared.Class.the-variants.{Always, Together, Subset, OneOf, Unknown}
+use Rattle.standard.specs.Kinds.{classOf, kindCount, groupCount, permanentEarth}
 use Rattle.standard.specs.Rows.{rowCount, factorOf, lowOf}
 use Rattle.standard.specs.Combination.{caseCount}
 use Rattle.standard.proofs.Facts.{factor-le}
-use Rattle.optimum.specs.Row.{greatestBy, leastBy, greatestOf, leastOf, lowerOf, groupOf, worthOf, gainOf, lossOf, rowMaximum}
+use Rattle.optimum.specs.Row.{greatestBy, leastBy, isTogether, greatestOf, leastOf, lowerOf, groupOf, jointOf, totalOf, worthOf, gainOf, lossOf, rowMaximum}
+use Rattle.optimum.proofs.RowBound.{past-apart}
+use Rattle.optimum.proofs.Together.{together-most}
 use Rattle.envelope.specs.declared.Best.{Best}
 use Rattle.envelope.specs.declared.Weights.{Weights}
 use Rattle.envelope.specs.Range.{effectOf, effectMost, EffectsInRange, WeightsInRange}
@@ -26,14 +28,17 @@ use Rattle.envelope.specs.Envelope.{governingOf, weighed}
 use Rattle.envelope.proofs.Rows.{best-some}
 
 -- ---- factors up to F
-greatest-le : (q : Class) (f : ℕ) → greatestBy q f ≤ f
+-- a case adds by itself or with the others of its kind
+greatest-le : (q : Class) (f : ℕ) → greatestBy q f + when (isTogether q) f ≤ f
 greatest-le Always f = omega arith
+greatest-le Together f = omega arith
 greatest-le Subset f = omega arith
 greatest-le (OneOf g) f = omega arith
 greatest-le Unknown f = omega arith
 
 least-le : (q : Class) (f : ℕ) → leastBy q f ≤ f
 least-le Always f = omega arith
+least-le Together f = omega arith
 least-le Subset f = omega arith
 least-le (OneOf g) f = omega arith
 least-le Unknown f = omega arith
@@ -43,22 +48,30 @@ lower-by true a f = omega arith
 lower-by false a f = omega arith
 
 module _ (F : ℕ) (s : Settings) (row : ℕ) (limit : (k : ℕ) → factorOf s row k ≤ F) where
-  pub greatest-most : (j : ℕ) → greatestOf s row j ≤ F
-  unfolding greatestOf
+  greatest-most : (j : ℕ) → greatestOf s row j + jointOf s row j ≤ F
+  unfolding greatestOf jointOf
   greatest-most j = le-trans (greatest-le (classOf j) (factorOf s row j)) (limit j)
 
-  pub least-most : (j : ℕ) → leastOf s row j ≤ F
+  least-most : (j : ℕ) → leastOf s row j ≤ F
   unfolding leastOf lowerOf
   least-most j = le-trans (least-le (classOf j) (lowerOf s row j)) (le-trans (lower-by (eqb j permanentEarth) (lowOf s) (factorOf s row j)) (limit j))
 
 -- for factors up to F and effects up to m
 module _ (F m : ℕ) (s : Settings) (row : ℕ) (limit : (k : ℕ) → factorOf s row k ≤ F) (kind : ℕ → ℕ) (e : ℕ → ℤ) (small : (k : ℕ) → natAbs (e k) ≤ m) where
+  joint-past : (k : ℕ) → kindCount ≤ kind k → jointOf s row (kind k) ≡ 0
+  unfolding jointOf
+  joint-past k l = ap (λ (t : Bool). when t (factorOf s row (kind k))) (past-apart (kind k) l)
+
   gain-most : gainOf s row kind e ≤ caseCount * (F * m) + groupCount * (F * m)
+  unfolding totalOf
   gain-most =
       omega (
         arith,
-        sum-most caseCount (F * m) (λ k. greatestOf s row (kind k) * up (e k))
-            (λ k l. mul-le-mul (greatest-most F s row limit (kind k)) (omega (arith, small k, abs-parts (e k)))),
+        together-most caseCount kind (λ k. jointOf s row (kind k)) e kindCount (jointOf s row) joint-past (λ j k l. ap (jointOf s row)),
+        sum-plus caseCount (λ k. greatestOf s row (kind k) * up (e k)) (λ k. jointOf s row (kind k) * up (e k)),
+        sum-most caseCount (F * m) (λ k. greatestOf s row (kind k) * up (e k) + jointOf s row (kind k) * up (e k))
+            (λ k l. let u : (greatestOf s row (kind k) + jointOf s row (kind k)) * up (e k) ≤ F * m = mul-le-mul (greatest-most F s row limit (kind k)) (omega (arith, small k, abs-parts (e k))) in
+            omega arith),
         sum-most groupCount (F * m) (λ g. most caseCount (worthOf s row kind e g))
             (λ g l. most-le caseCount (F * m) (worthOf s row kind e g)
             (λ k i. le-trans (when-le (eqb (groupOf (kind k)) g) (factorOf s row (kind k) * up (e k)))

@@ -107,6 +107,9 @@ highest b (suc n) = go (ltZ (q .best .value) (b (suc n) .value)) (λ t. less-le 
 pub peak-own : (b : ℕ → Best) (n : ℕ) → peakOf b n .best ≡ b (peakOf b n .pattern)
 peak-own b n = highest b n .is
 
+pub peak-inside : (b : ℕ → Best) (n : ℕ) → peakOf b n .pattern ≤ n
+peak-inside b n = highest b n .inside
+
 -- ---- the numerator of a combination against a pattern's weighed effect
 sum-le : (a b c : ℤ) (x y z : ℕ) → a ≤ℤ pos x → b ≤ℤ pos y → c ≤ℤ pos z → (a +ℤ b +ℤ c) ≤ℤ pos (x + y + z)
 sum-le a b c x y z p q r =

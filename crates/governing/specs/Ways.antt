@@ -1,10 +1,10 @@
 -- The rows that govern by the sums: the effects as they are or negated, and the eight patterns of signs.
 use Prim.Native.Nat.{ℕ}
-use mathlib.Core.List.{List, [], _∷_}
+use mathlib.Core.List.{List}
 use lib.IntN.{pos}
-use lib.ListN.{getD}
 use Rattle.standard.specs.declared.Settings.{Settings}
 use Rattle.sums.specs.Sums.{SumsInRange}
+use Rattle.directions.specs.Four.{eightBy}
 use Rattle.terms.specs.Value.{termsOf, TermsInRange, valueOf}
 use Rattle.envelope.specs.declared.Best.{Best}
 use Rattle.envelope.specs.Envelope.{bestAt, bestOf}
@@ -19,11 +19,6 @@ pub record Ready (sums : List ℕ) : Type 0 where
   pub forth : TermsInRange (termsOf sums 0 1)
   pub back : TermsInRange (termsOf sums 1 0)
 
--- by pattern of signs: pattern 7 - i is the opposite of pattern i
+-- the row that governs a pattern of signs
 abbrev pub eightOf : Settings → (s0 s1 s2 s3 : List ℕ) → ℕ → Best
-eightOf s s0 s1 s2 s3 i =
-    getD (
-    towardOf s s0 0 1 ∷ towardOf s s1 0 1 ∷ towardOf s s2 0 1 ∷ towardOf s s3 0 1
-    ∷ towardOf s s3 1 0 ∷ towardOf s s2 1 0 ∷ towardOf s s1 1 0 ∷ towardOf s s0 1 0
-    ∷ []
-    ) i (bestAt 0 (pos 0))
+eightOf s s0 s1 s2 s3 = eightBy (towardOf s) s0 s1 s2 s3 (bestAt 0 (pos 0))

@@ -1,5 +1,8 @@
--- Tests joined by `and` and `or`, taken apart and put together.
+-- Tests joined by `and` and `or`, taken apart and put together; numbers left over by tests.
 -- Assumes nothing.
+use Prim.Native.Nat.{ℕ, suc, _≤_}
+use native.Mathlib.Omega.{arith}
+use mathlib.Core.Path.{_≡_}
 use mathlib.Core.Bool.{Bool, true, false, _&&_, _||_}
 use mathlib.Core.Logic.{_⊎_, inl, inr}
 use lib.Dec.{T}
@@ -27,3 +30,7 @@ or-right false b t = t
 pub or-cases : (a b : Bool) → T (a || b) → T a ⊎ T b
 or-cases true b t = inl tt
 or-cases false b t = inr t
+
+-- at least k and not k; by steps, since `omega` takes six such tests at once
+pub past : {n : ℕ} (k : ℕ) → k ≤ n → (n ≡ k → ⊥) → suc k ≤ n
+past k h f = omega arith

@@ -1,4 +1,5 @@
--- The acting cases are those that all act, those of the subsets whose effect is above zero, and the lead of each group.
+-- The acting cases are those that all act, those that act together where their total is above zero, those of the subsets whose effect
+-- is, and the lead of each group.
 -- Assumes nothing.
 use Prim.Native.Nat.{ℕ, zero, suc, _+_, _*_, _<_, _^_}
 use native.Mathlib.Omega.{arith}
@@ -11,22 +12,24 @@ use Rattle.integers.specs.Sums.{when, sum, most, mostAt, maskOf, up}
 use Rattle.integers.proofs.Sums.{eqb-cases, ltb-cases, sum-same, sum-none, sum-only, sum-plus, sum-swap, most-ge, most-at}
 use Rattle.standard.specs.declared.Settings.{Settings}
 use Rattle.standard.specs.declared.Class.{Class}
-use Rattle.standard.specs.declared.Class.the-variants.{Always, Subset, OneOf, Unknown}
+use Rattle.standard.specs.declared.Class.the-variants.{Always, Together, Subset, OneOf, Unknown}
 use Rattle.standard.specs.Kinds.{classOf, groupCount}
 use Rattle.standard.specs.Rows.{factorOf}
 use Rattle.standard.specs.Combination.{caseCount}
 use Rattle.standard.proofs.Facts.{group-below}
-use Rattle.optimum.specs.Row.{groupBy, groupOf, worthOf, leaderOf, actsBy, actsIn}
+use Rattle.optimum.specs.Row.{groupBy, isTogether, groupOf, worthOf, leaderOf, totalOf, actsBy, actsIn}
 use Rattle.naming.specs.Sets.{leadBit}
 
 abbrev pub isAlways : Class → Bool
 isAlways Always = true
+isAlways Together = false
 isAlways Subset = false
 isAlways (OneOf g) = false
 isAlways Unknown = false
 
 abbrev pub isSubset : Class → Bool
 isSubset Always = false
+isSubset Together = false
 isSubset Subset = true
 isSubset (OneOf g) = false
 isSubset Unknown = false
@@ -63,14 +66,16 @@ and-false true x = refl
 and-false false x = refl
 
 -- by class: by itself, or as the lead of its group
-module _ (f positive : Bool) (lead : ℕ → ℕ) (k x : ℕ) where
+module _ (f positive joint : Bool) (lead : ℕ → ℕ) (k x : ℕ) where
   abbrev led : Class → ℕ → ℕ
   led q g = when (eqb (groupBy q) g && (f && (eqb (lead g) k && positive))) x
 
   parted : (q : Class) → ((g : ℕ) → q ≡ OneOf g → g < groupCount) →
-      when (f && actsBy q positive (eqb (lead (groupBy q)) k)) x ≡ when (isAlways q && f) x + when ((isSubset q && f) && positive) x + sum groupCount (led q)
+      when (f && actsBy q positive (eqb (lead (groupBy q)) k) joint) x
+      ≡ when (isAlways q && f) x + when ((isTogether q && f) && joint) x + when ((isSubset q && f) && positive) x + sum groupCount (led q)
   unfolding sum
   parted Always h = omega (arith, and-true f x)
+  parted Together h = omega arith
   parted Subset h = omega arith
   parted (OneOf g) h =
       let l : g < groupCount = h g refl in
@@ -87,9 +92,15 @@ abbrev pub factored : Settings → ℕ → (ℕ → ℕ) → ℕ → Bool
 factored s row kind k = ltb 0 (factorOf s row (kind k))
 
 module _ (s : Settings) (row : ℕ) (kind : ℕ → ℕ) (x : ℕ → ℤ) where
-  -- the cases that act by themselves
+  -- the cases that all act, those that act together and those that act by themselves
   abbrev always : ℕ → Bool
   always k = isAlways (classOf (kind k)) && factored s row kind k
+
+  abbrev joint : ℕ → Bool
+  joint k = ltb 0 (up (totalOf kind x (kind k)))
+
+  abbrev jointly : ℕ → Bool
+  jointly k = (isTogether (classOf (kind k)) && factored s row kind k) && joint k
 
   abbrev positive : ℕ → Bool
   positive k = (isSubset (classOf (kind k)) && factored s row kind k) && ltb 0 (up (x k))
@@ -104,9 +115,9 @@ module _ (s : Settings) (row : ℕ) (kind : ℕ → ℕ) (x : ℕ → ℤ) where
   abbrev leading : ℕ → ℕ → ℕ
   leading g k = when (own g k && (factored s row kind k && (eqb (leaderOf s row kind x g) k && ltb 0 (up (x k))))) (2 ^ k)
 
-  each : (k : ℕ) → when (actsIn s row kind x k) (2 ^ k) ≡ when (always k) (2 ^ k) + when (positive k) (2 ^ k) + sum groupCount (λ g. leading g k)
+  each : (k : ℕ) → when (actsIn s row kind x k) (2 ^ k) ≡ when (always k) (2 ^ k) + when (jointly k) (2 ^ k) + when (positive k) (2 ^ k) + sum groupCount (λ g. leading g k)
   unfolding actsIn groupOf
-  each k = parted (factored s row kind k) (ltb 0 (up (x k))) (leaderOf s row kind x) k (2 ^ k) (classOf (kind k)) (λ g q. group-below (kind k) g q)
+  each k = parted (factored s row kind k) (ltb 0 (up (x k))) (joint k) (leaderOf s row kind x) k (2 ^ k) (classOf (kind k)) (λ g q. group-below (kind k) g q)
 
   -- the lead of a group, as a bit
   one-lead : (g : ℕ) → sum caseCount (leading g) ≡ leadBit caseCount (adds g)
@@ -127,10 +138,16 @@ module _ (s : Settings) (row : ℕ) (kind : ℕ → ℕ) (x : ℕ → ℤ) where
           (λ _. adds-some (own g j) (factorOf s row (kind j)) (up (x j)) (2 ^ j) h) (λ ne. absurd (ne refl))
 
   pub acting-is : maskOf caseCount (actsIn s row kind x) ≡ maskOf caseCount (λ k. isAlways (classOf (kind k)) && factored s row kind k)
-      + maskOf caseCount (λ k. (isSubset (classOf (kind k)) && factored s row kind k) && ltb 0 (up (x k))) + sum groupCount (λ g. leadBit caseCount (worthOf s row kind x g))
+      + maskOf caseCount (λ k. (isTogether (classOf (kind k)) && factored s row kind k) && ltb 0 (up (totalOf kind x (kind k))))
+      + maskOf caseCount (λ k. (isSubset (classOf (kind k)) && factored s row kind k) && ltb 0 (up (x k)))
+      + sum groupCount (λ g. leadBit caseCount (worthOf s row kind x g))
   unfolding maskOf
   acting-is =
-      sum-same caseCount (λ k. when (actsIn s row kind x k) (2 ^ k)) (λ k. when (always k) (2 ^ k) + when (positive k) (2 ^ k) + sum groupCount (λ g. leading g k)) (λ k l. each k)
-      ∙ sum-plus caseCount (λ k. when (always k) (2 ^ k) + when (positive k) (2 ^ k)) (λ k. sum groupCount (λ g. leading g k))
-      ∙ (λ i. sum-plus caseCount (λ k. when (always k) (2 ^ k)) (λ k. when (positive k) (2 ^ k)) i
-      + (sum-swap caseCount groupCount (λ k g. leading g k) ∙ sum-same groupCount (λ g. sum caseCount (leading g)) (λ g. leadBit caseCount (adds g)) (λ g l. one-lead g)) i)
+      let a : ℕ → ℕ = λ k. when (always k) (2 ^ k) in
+      let j : ℕ → ℕ = λ k. when (jointly k) (2 ^ k) in
+      let p : ℕ → ℕ = λ k. when (positive k) (2 ^ k) in
+      let l : ℕ → ℕ = λ k. sum groupCount (λ g. leading g k) in
+      sum-same caseCount (λ k. when (actsIn s row kind x k) (2 ^ k)) (λ k. a k + j k + p k + l k) (λ k _. each k)
+      ∙ sum-plus caseCount (λ k. a k + j k + p k) l
+      ∙ (λ i. (sum-plus caseCount (λ k. a k + j k) p ∙ (λ n. sum-plus caseCount a j n + sum caseCount p)) i
+      + (sum-swap caseCount groupCount (λ k g. leading g k) ∙ sum-same groupCount (λ g. sum caseCount (leading g)) (λ g. leadBit caseCount (adds g)) (λ g _. one-lead g)) i)

@@ -2,26 +2,26 @@
 -- Assumes nothing.
 use Prim.Native.Nat.{ℕ, _+_, _*_, _<_, _≤_, _^_, max}
 use native.Mathlib.Omega.{arith}
-use mathlib.Core.Bool.{Bool, true, false, _&&_}
+use mathlib.Core.Bool.{Bool, true, false, not, _&&_, false≢true}
 use mathlib.Core.List.{List}
-use mathlib.Core.Path.{_≡_, refl, sym, ap, _∙_}
-use lib.Dec.{eqb, ltb}
+use mathlib.Core.Path.{_≡_, refl, sym, ap, _∙_, subst}
+use lib.Dec.{T, eqb, ltb, eqb→eq}
 use lib.IntN.{ℤ}
 use lib.ListN.{getD}
 use Rattle.integers.specs.Sums.{when, sum, most, maskOf, up, down}
 use Rattle.integers.specs.Sets.{has}
 use Rattle.integers.proofs.Masks.{mask-below, bit-in-mask}
-use Rattle.integers.proofs.Sums.{eqb-cases, ltb-cases, sum-same, sum-swap}
+use Rattle.integers.proofs.Sums.{when-le, eqb-cases, ltb-cases, sum-same, sum-plus, sum-swap}
 use Rattle.standard.specs.declared.Settings.{Settings}
 use Rattle.standard.specs.declared.Class.{Class}
-use Rattle.standard.specs.declared.Class.the-variants.{Always, Subset, OneOf, Unknown}
-use Rattle.standard.specs.Kinds.{classOf, kindCount, groupCount, permanentEarth}
+use Rattle.standard.specs.declared.Class.the-variants.{Always, Together, Subset, OneOf, Unknown}
+use Rattle.standard.specs.Kinds.{classOf, kindCount, groupCount, fluid, permanentEarth}
 use Rattle.standard.specs.Rows.{factorOf}
 use Rattle.standard.specs.Columns.{kindsIn}
 use Rattle.standard.specs.Combination.{caseCount}
 use Rattle.standard.proofs.Facts.{kind-in, sharedFactor, shared-factor}
 use Rattle.standard.proofs.Table.{tabulate, same-at}
-use Rattle.optimum.specs.Row.{groupBy, groupOf, worthOf, actsIn, lowIn}
+use Rattle.optimum.specs.Row.{groupBy, isTogether, groupOf, totalOf, worthOf, actsIn, lowIn}
 use Rattle.envelope.specs.Places.{Places, PlacesInRange}
 use Rattle.naming.specs.Sets.{leadBit, gatheredOf, chosenOf, ChosenInRange, namedOf}
 use Rattle.integers.proofs.Folds.{mask-same, when-sum, inRun, sum-run, most-multiple, mostAt-multiple, ltb-times}
@@ -46,14 +46,21 @@ by-shared f u w h =
 
 class-of-group : (q : Class) (g : ℕ) → groupBy q ≡ g → g < groupCount → q ≡ OneOf g
 class-of-group Always g e l = absurd (omega arith)
+class-of-group Together g e l = absurd (omega arith)
 class-of-group Subset g e l = absurd (omega arith)
 class-of-group (OneOf h) g e l = ap OneOf e
 class-of-group Unknown g e l = absurd (omega arith)
 
 -- ---- the cases of a run of kinds
--- Hp, the kinds of each class and those of each group are a run of kinds
+-- of the kinds whose cases all act, those that are not Hp
+abbrev isDead : ℕ → Bool
+isDead j = isAlways (classOf j) && not (eqb j permanentEarth)
+
+-- these, Hp, the kinds of each other class and those of each group are a run of kinds
 record Runs : Type 0 where
-  always : tabulate (λ j. isAlways (classOf j)) 0 kindCount ≡ tabulate (inRun 1 3) 0 kindCount
+  dead : tabulate isDead 0 kindCount ≡ tabulate (inRun 1 1) 0 kindCount
+  joint : tabulate (λ j. isTogether (classOf j)) 0 kindCount ≡ tabulate (inRun fluid 1) 0 kindCount
+  fluid : tabulate (λ j. isTogether (classOf j)) 0 kindCount ≡ tabulate (λ j. eqb j fluid) 0 kindCount
   earth : tabulate (λ j. eqb j permanentEarth) 0 kindCount ≡ tabulate (inRun 3 1) 0 kindCount
   free : tabulate (λ j. isSubset (classOf j)) 0 kindCount ≡ tabulate (inRun 4 2) 0 kindCount
   roof : tabulate (λ j. eqb (groupOf j) 0) 0 kindCount ≡ tabulate (inRun 6 3) 0 kindCount
@@ -65,11 +72,30 @@ record Runs : Type 0 where
 
 runs : Runs
 unfolding classOf groupOf
-runs = record { always = refl; earth = refl; free = refl; roof = refl; wind = refl; quake = refl; flood = refl; ice = refl; icewind = refl }
+runs = record { dead = refl; joint = refl; fluid = refl; earth = refl; free = refl; roof = refl; wind = refl; quake = refl; flood = refl; ice = refl; icewind = refl }
 
 six : (g : ℕ → ℕ) → sum groupCount g ≡ g 0 + g 1 + g 2 + g 3 + g 4 + g 5
 unfolding sum
 six g = omega arith
+
+earth-always : (j : ℕ) → j ≡ permanentEarth → isAlways (classOf j) ≡ true
+unfolding classOf
+earth-always j e = ap (λ (i : ℕ). isAlways (classOf i)) e
+
+-- what always acts is Hp or not
+by-earth : (a h f : Bool) (y : ℕ) → (T h → a ≡ true) → when (a && f) y ≡ when ((a && not h) && f) y + when (h && f) y
+by-earth true true f y e = omega arith
+by-earth true false f y e = omega arith
+by-earth false true f y e = absurd (false≢true (e tt))
+by-earth false false f y e = refl
+
+-- where those that pass t are told by one test
+one-test : (t f own all : Bool) (y : ℕ) → (T t → own ≡ all) → when ((t && f) && own) y ≡ when all (when (t && f) y)
+one-test true true own all y e = ap (λ (b : Bool). when b y) (e tt)
+one-test true false own true y e = refl
+one-test true false own false y e = refl
+one-test false f own true y e = refl
+one-test false f own false y e = refl
 
 and-exchanged : (a b c : Bool) → (a && b) && c ≡ b && (a && c)
 and-exchanged true true c = refl
@@ -97,11 +123,18 @@ module _ (places : List ℕ) (kind : ℕ → ℕ) (held : Places places kind) wh
   gathered-below set first count h l =
       omega (arith, gathered-is set first count h l, mask-below caseCount (λ k. inRun first count (kind k) && has set (kind k)))
 
-  pub chosen-in-range : (row : ℕ) → ChosenInRange (chosenOf row places)
+  pub chosen-in-range : (row : ℕ) (joint : Bool) → ChosenInRange (chosenOf row places joint)
   unfolding chosenOf
-  chosen-in-range row =
+  chosen-in-range row joint =
       record {
-        always = gathered-below (kindsIn row) 1 3 (omega arith) (omega arith);
+        always =
+            omega (
+              arith,
+              gathered-below (kindsIn row) 1 1 (omega arith) (omega arith),
+              gathered-below (kindsIn row) 3 1 (omega arith) (omega arith),
+              gathered-below (kindsIn row) fluid 1 (omega arith) (omega arith),
+              when-le joint (gatheredOf places (kindsIn row) fluid 1),
+            );
         earth = gathered-below (kindsIn row) 3 1 (omega arith) (omega arith);
         free = gathered-below (kindsIn row) 4 2 (omega arith) (omega arith);
         roof = gathered-below (kindsIn row) 6 3 (omega arith) (omega arith);
@@ -158,14 +191,41 @@ module _ (places : List ℕ) (kind : ℕ → ℕ) (held : Places places kind) wh
               (λ p. omega (arith, shared-factor s row (kind k) g (class-of-group (classOf (kind k)) g e m) p)))
               (λ _. omega arith)
 
-      pub named-acting : namedOf (chosenOf row places) x .acting ≡ maskOf caseCount (actsIn s row kind x)
+      -- the cases that all act
+      always-are : maskOf caseCount (λ k. isAlways (classOf (kind k)) && factored s row kind k) ≡ gatheredOf places (kindsIn row) 1 1 + gatheredOf places (kindsIn row) 3 1
+      unfolding maskOf
+      always-are =
+          let d : ℕ → ℕ = λ k. when (isDead (kind k) && factored s row kind k) (2 ^ k) in
+          let h : ℕ → ℕ = λ k. when (eqb (kind k) permanentEarth && factored s row kind k) (2 ^ k) in
+          sum-same caseCount (λ k. when (isAlways (classOf (kind k)) && factored s row kind k) (2 ^ k)) (λ k. d k + h k)
+          (λ k l. by-earth (isAlways (classOf (kind k))) (eqb (kind k) permanentEarth) (factored s row kind k) (2 ^ k) (λ t. earth-always (kind k) (eqb→eq (kind k) permanentEarth t)))
+          ∙ sum-plus caseCount d h
+          ∙ (λ i. sym (run-passing isDead 1 1 (omega arith) (omega arith) (runs .dead)) i + sym (run-passing (λ j. eqb j permanentEarth) 3 1 (omega arith) (omega arith) (runs .earth)) i)
+
+      -- those that act together: F, by the total of its effects
+      joint-are : maskOf caseCount (λ k. (isTogether (classOf (kind k)) && factored s row kind k) && ltb 0 (up (totalOf kind x (kind k))))
+          ≡ when (ltb 0 (up (totalOf kind x fluid))) (gatheredOf places (kindsIn row) fluid 1)
+      unfolding maskOf
+      joint-are =
+          let all : Bool = ltb 0 (up (totalOf kind x fluid)) in
+          let own : ℕ → Bool = λ k. isTogether (classOf (kind k)) && factored s row kind k in
+          sum-same caseCount (λ k. when (own k && ltb 0 (up (totalOf kind x (kind k)))) (2 ^ k)) (λ k. when all (when (own k) (2 ^ k)))
+          (λ k l. one-test (isTogether (classOf (kind k))) (factored s row kind k) (ltb 0 (up (totalOf kind x (kind k)))) all (2 ^ k)
+          (λ t. ap (λ (j : ℕ). ltb 0 (up (totalOf kind x j)))
+          (eqb→eq (kind k) fluid (subst (λ (b : Bool). T b) (same-at (λ j. isTogether (classOf j)) (λ j. eqb j fluid) 0 kindCount (kind k) (runs .fluid) (omega arith) (omega (arith, below k))) t))))
+          ∙ sym (when-sum all caseCount (λ k. when (own k) (2 ^ k)))
+          ∙ ap (λ (y : ℕ). when all y) (sym (run-passing (λ j. isTogether (classOf j)) fluid 1 (omega arith) (omega arith) (runs .joint)))
+
+      pub named-acting : (joint : Bool) → joint ≡ ltb 0 (up (totalOf kind x fluid)) → namedOf (chosenOf row places joint) x .acting ≡ maskOf caseCount (actsIn s row kind x)
       unfolding namedOf chosenOf
-      named-acting =
+      named-acting joint e =
           omega (
             arith,
             acting-is s row kind x,
+            always-are,
+            joint-are,
+            ap (λ (t : Bool). when t (gatheredOf places (kindsIn row) fluid 1)) e,
             six (λ g. leadBit caseCount (worthOf s row kind x g)),
-            run-passing (λ j. isAlways (classOf j)) 1 3 (omega arith) (omega arith) (runs .always),
             members-passing (λ j. isSubset (classOf j)) 4 2 (omega arith) (omega arith) (runs .free) (λ k. ltb 0 (up (x k))),
             lead-is 0 6 3 (omega arith) (omega arith) (omega arith) (runs .roof),
             lead-is 1 9 1 (omega arith) (omega arith) (omega arith) (runs .wind),
@@ -175,9 +235,9 @@ module _ (places : List ℕ) (kind : ℕ → ℕ) (held : Places places kind) wh
             lead-is 5 13 1 (omega arith) (omega arith) (omega arith) (runs .icewind),
           )
 
-      pub named-low : namedOf (chosenOf row places) x .low ≡ maskOf caseCount (lowIn s row kind x)
+      pub named-low : (joint : Bool) → namedOf (chosenOf row places joint) x .low ≡ maskOf caseCount (lowIn s row kind x)
       unfolding namedOf chosenOf lowIn
-      named-low =
+      named-low joint =
           members-passing (λ j. eqb j permanentEarth) 3 1 (omega arith) (omega arith) (runs .earth) (λ k. ltb 0 (down (x k)))
           ∙ mask-same caseCount (λ k. (eqb (kind k) permanentEarth && factored s row kind k) && ltb 0 (down (x k))) (lowIn s row kind x)
           (λ k m. and-exchanged (eqb (kind k) permanentEarth) (factored s row kind k) (ltb 0 (down (x k))))

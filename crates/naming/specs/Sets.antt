@@ -1,5 +1,5 @@
 -- The sets of a row's best combination, as they are worked out from the cases of each kind.
-use Prim.Native.Nat.{ℕ, _+_, _<_, _^_}
+use Prim.Native.Nat.{ℕ, _+_, _*_, _<_, _^_}
 use mathlib.Core.Bool.{Bool, cond, _&&_}
 use mathlib.Core.List.{List}
 use lib.Dec.{ltb}
@@ -9,6 +9,7 @@ use lib.Signed.{ltZ}
 use Rattle.integers.specs.Sums.{when, sum, most, mostAt, maskOf, up, down}
 use Rattle.integers.specs.Sets.{has}
 use Rattle.standard.specs.Columns.{kindsIn}
+use Rattle.standard.specs.Kinds.{fluid}
 use Rattle.standard.specs.Combination.{caseCount}
 use Rattle.naming.specs.declared.Marked.{Marked}
 use Rattle.naming.specs.declared.Chosen.{Chosen}
@@ -42,10 +43,11 @@ markedWith m x bit =
 unfoldable pub gatheredOf : List ℕ → (factored first count : ℕ) → ℕ
 gatheredOf places factored first count = sum count (λ i. when (has factored (first + i)) (getD places (first + i) 0))
 
-unfoldable pub chosenOf : ℕ → List ℕ → Chosen
-chosenOf row places =
+-- in a row; `joint` says that the F cases act
+unfoldable pub chosenOf : ℕ → List ℕ → Bool → Chosen
+chosenOf row places joint =
     record {
-      always = gatheredOf places (kindsIn row) 1 3;
+      always = gatheredOf places (kindsIn row) 1 1 + gatheredOf places (kindsIn row) 3 1 + when joint (gatheredOf places (kindsIn row) fluid 1);
       earth = gatheredOf places (kindsIn row) 3 1;
       free = gatheredOf places (kindsIn row) 4 2;
       roof = gatheredOf places (kindsIn row) 6 3;
@@ -56,9 +58,9 @@ chosenOf row places =
       icewind = gatheredOf places (kindsIn row) 13 1;
     }
 
--- each is a set of cases
+-- each is a set of cases, the first made up of three
 pub record ChosenInRange (c : Chosen) : Type 0 where
-  pub always : c .always < 2 ^ caseCount
+  pub always : c .always < 3 * 2 ^ caseCount
   pub earth : c .earth < 2 ^ caseCount
   pub free : c .free < 2 ^ caseCount
   pub roof : c .roof < 2 ^ caseCount
@@ -74,7 +76,7 @@ namedBy always earth free roof wind quake flood ice icewind =
     record { acting = always + free .above + (roof .lead + wind .lead + quake .lead + flood .lead + ice .lead + icewind .lead); low = earth .below }
 
 pub record MarkedSets (always : ℕ) (earth free roof wind quake flood ice icewind : Marked) : Type 0 where
-  pub always-small : always < 2 ^ caseCount
+  pub always-small : always < 3 * 2 ^ caseCount
   pub free-small : free .above < 2 ^ caseCount
   pub roof-small : roof .lead < 2 ^ caseCount
   pub wind-small : wind .lead < 2 ^ caseCount

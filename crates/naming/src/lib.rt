@@ -22,8 +22,8 @@ pub struct Marked {
     pub most: i64,
 }
 
-// The cases of the kinds that have a factor in a row: those that all act, Hp among them, Hp alone, those of which any
-// subset acts, and each group of which at most one acts.
+// The cases of the kinds that have a factor in a row: those that all act, D, Hp and, where they do, F; Hp alone; those of which
+// any subset acts; and each group of which at most one acts.
 pub struct Chosen {
     pub always: u64,
     pub earth: u64,
@@ -42,11 +42,11 @@ pub struct Sets {
     pub low: u64,
 }
 
-fn with_bit(mask: u64, on: bool, bit: u64) -> u64
-    requires { ⌜ mask + bit < 2 ^ 64 ⌝ }
-    ensures { λ r. ⌜ r ≡ mask + when on bit ⌝ }
+fn with_set(set: u64, on: bool, more: u64) -> u64
+    requires { ⌜ set + more < 2 ^ 64 ⌝ }
+    ensures { λ r. ⌜ r ≡ set + when on more ⌝ }
 {
-    if on { mask + bit } else { mask }
+    if on { set + more } else { set }
 }
 
 // One case more, whose effect is x and whose set is `bit`.
@@ -54,8 +54,8 @@ fn with_case(m: Marked, x: i64, bit: u64) -> Marked
     requires { ⌜ (m .above + bit < 2 ^ 64) × (m .below + bit < 2 ^ 64) ⌝ }
     ensures { λ r. ⌜ r ≡ markedWith m x bit ⌝ }
 {
-    let above = with_bit(m.above, 0 < x, bit);
-    let below = with_bit(m.below, x < 0, bit);
+    let above = with_set(m.above, 0 < x, bit);
+    let below = with_set(m.below, x < 0, bit);
     if m.most < x {
         return Marked {
             above,
@@ -157,15 +157,18 @@ fn gathered(places: &[u64], factored: u16, first: usize, count: usize) -> u64
     set
 }
 
-// The cases that may act in a row, by how they may.
-fn chosen_in(row: usize, places: &[u64]) -> Chosen
+// The cases that may act in a row, by how they may; `fluid` says that the F cases act.
+fn chosen_in(row: usize, places: &[u64], fluid: bool) -> Chosen
     requires { ⌜ (row < rowCount) × PlacesInRange (now places) ⌝ }
-    ensures { λ r. ⌜ r ≡ chosenOf row (now (places .entry)) ⌝ }
+    ensures { λ r. ⌜ r ≡ chosenOf row (now (places .entry)) fluid ⌝ }
 {
     let factored = rows::kinds_in(row);
+    let dead = gathered(places, factored, 1, 1);
+    let tank = gathered(places, factored, 2, 1);
+    let earth = gathered(places, factored, 3, 1);
     Chosen {
-        always: gathered(places, factored, 1, 3),
-        earth: gathered(places, factored, 3, 1),
+        always: with_set(dead + earth, fluid, tank),
+        earth,
         free: gathered(places, factored, 4, 2),
         roof: gathered(places, factored, 6, 3),
         wind: gathered(places, factored, 9, 1),
@@ -198,12 +201,20 @@ fn named(
     }
 }
 
-// The sets of the best combination of a row, for a component's effects with their sign turned or not.
-pub fn sets_at(row: usize, places: &[u64], effects: &[i16], component: usize, minus: bool) -> Sets
-    requires { ⌜ (row < rowCount) × PlacesInRange (now places) × ChosenInRange (chosenOf row (now places)) × EffectsInRange (now effects) × (component < 3) ⌝ }
-    ensures { λ r. ⌜ r ≡ namedOf (chosenOf row (now (places .entry))) (λ k. turned minus (effectOf (now (effects .entry)) k component)) ⌝ }
+// The sets of the best combination of a row, for a component's effects with their sign turned or not; `fluid` says that the F
+// cases act.
+pub fn sets_at(
+    row: usize,
+    places: &[u64],
+    effects: &[i16],
+    component: usize,
+    minus: bool,
+    fluid: bool,
+) -> Sets
+    requires { ⌜ (row < rowCount) × PlacesInRange (now places) × ChosenInRange (chosenOf row (now places) fluid) × EffectsInRange (now effects) × (component < 3) ⌝ }
+    ensures { λ r. ⌜ r ≡ namedOf (chosenOf row (now (places .entry)) fluid) (λ k. turned minus (effectOf (now (effects .entry)) k component)) ⌝ }
 {
-    let c = chosen_in(row, places);
+    let c = chosen_in(row, places, fluid);
     let earth = marked_at(c.earth, effects, component, minus);
     let free = marked_at(c.free, effects, component, minus);
     let roof = marked_at(c.roof, effects, component, minus);
@@ -226,11 +237,11 @@ pub fn sets_at(row: usize, places: &[u64], effects: &[i16], component: usize, mi
 }
 
 // The same for the weighed effects.
-pub fn sets_by(row: usize, places: &[u64], effects: &[i16], w: Weights) -> Sets
-    requires { ⌜ (row < rowCount) × PlacesInRange (now places) × ChosenInRange (chosenOf row (now places)) × EffectsInRange (now effects) × WeightsInRange w ⌝ }
-    ensures { λ r. ⌜ r ≡ namedOf (chosenOf row (now (places .entry))) (weighed w (effectOf (now (effects .entry)))) ⌝ }
+pub fn sets_by(row: usize, places: &[u64], effects: &[i16], w: Weights, fluid: bool) -> Sets
+    requires { ⌜ (row < rowCount) × PlacesInRange (now places) × ChosenInRange (chosenOf row (now places) fluid) × EffectsInRange (now effects) × WeightsInRange w ⌝ }
+    ensures { λ r. ⌜ r ≡ namedOf (chosenOf row (now (places .entry)) fluid) (weighed w (effectOf (now (effects .entry)))) ⌝ }
 {
-    let c = chosen_in(row, places);
+    let c = chosen_in(row, places, fluid);
     let earth = marked_by(c.earth, effects, w);
     let free = marked_by(c.free, effects, w);
     let roof = marked_by(c.roof, effects, w);

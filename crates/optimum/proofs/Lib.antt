@@ -1,4 +1,5 @@
 pub mod Bound
 pub mod Attained
+pub mod Together
 pub mod RowBound
 pub mod RowReached

@@ -1,7 +1,7 @@
 -- SCOPE 4.2 and 4.3: which sets of cases may act and be low in a row. Sets of cases are numbers, case k being bit k (SCOPE 6.2).
 use Prim.Native.Nat.{ℕ, _-_, _≤_}
 use mathlib.Core.List.{List}
-use mathlib.Core.Bool.{Bool, _&&_}
+use mathlib.Core.Bool.{Bool, _&&_, _||_}
 use lib.Bits.{bitAnd, bitOr}
 use lib.Dec.{eqb}
 use lib.ListN.{getD}
@@ -9,6 +9,10 @@ use Rattle.recheck_combinations.specs.declared.Rules.{Rules}
 
 abbrev pub within : ℕ → ℕ → Bool
 within set all = eqb (bitOr set all) all
+
+-- `set` being the members of `all` that act
+abbrev pub allOrNone : ℕ → ℕ → Bool
+allOrNone set all = eqb set 0 || eqb set all
 
 -- at most one bit: 1 less has only bits below it
 abbrev pub atMostOne : ℕ → Bool
@@ -19,6 +23,7 @@ unfoldable pub mayAct : Rules → ℕ → Bool
 mayAct r acting =
     within acting (r .may)
     && within (r .always) acting
+    && allOrNone (bitAnd acting (r .fluid)) (r .fluid)
     && atMostOne (bitAnd acting (r .roof))
     && atMostOne (bitAnd acting (r .wind))
     && atMostOne (bitAnd acting (r .earthquake))

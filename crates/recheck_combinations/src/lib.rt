@@ -3,7 +3,7 @@
 
 ghost use mathlib.Core.Path.{_≡_};
 ghost use Prim.Native.Nat.{_*_, _%_};
-ghost use Rattle.recheck_combinations.specs.Acting.{within, atMostOne, mayAct, mayBeLow, Factors};
+ghost use Rattle.recheck_combinations.specs.Acting.{within, allOrNone, atMostOne, mayAct, mayBeLow, Factors};
 use recheck_rows::factor;
 use std::num::wrapping_add_u64;
 use std::num::wrapping_sub_u64;
@@ -23,6 +23,7 @@ pub struct Look {
 // The cases with a factor in one row, by the rule that they are under.
 pub struct Rules {
     pub always: u64,
+    pub fluid: u64,
     pub may: u64,
     pub roof: u64,
     pub wind: u64,
@@ -63,8 +64,10 @@ fn having(kinds: &[u8; 32], factors: &[u64; 32], first: u8, last: u8) -> u64 {
 }
 
 pub fn rules_of(kinds: &[u8; 32], factors: &[u64; 32]) -> Rules {
+    let hp = having(kinds, factors, 3, 3);
     Rules {
-        always: having(kinds, factors, 1, 3),
+        always: having(kinds, factors, 1, 1) | hp,
+        fluid: having(kinds, factors, 2, 2),
         may: having(kinds, factors, 1, 13),
         roof: having(kinds, factors, 6, 8),
         wind: having(kinds, factors, 9, 9),
@@ -72,7 +75,7 @@ pub fn rules_of(kinds: &[u8; 32], factors: &[u64; 32]) -> Rules {
         flood: having(kinds, factors, 11, 11),
         ice_weight: having(kinds, factors, 12, 12),
         ice_wind: having(kinds, factors, 13, 13),
-        hp: having(kinds, factors, 3, 3),
+        hp,
     }
 }
 
@@ -92,18 +95,26 @@ fn within(set: u64, all: u64) -> bool
     set | all == all
 }
 
-// Whether these cases may act together.
+// Whether all cases of `all` act or none does; `set` has those of them that act.
+fn all_or_none(set: u64, all: u64) -> bool
+    ensures { λ r. ⌜ r ≡ allOrNone set all ⌝ }
+{
+    (set == 0) | (set == all)
+}
+
+// Whether these cases may act together. The F cases act all or none: a tank may be empty.
 pub fn may_act(r: Rules, acting: u64) -> bool
     ensures { λ b. ⌜ b ≡ mayAct r acting ⌝ }
 {
     let cases = within(acting, r.may) & within(r.always, acting);
+    let fluid = all_or_none(acting & r.fluid, r.fluid);
     let roof = at_most_one(acting & r.roof);
     let wind = at_most_one(acting & r.wind);
     let earthquake = at_most_one(acting & r.earthquake);
     let flood = at_most_one(acting & r.flood);
     let ice_weight = at_most_one(acting & r.ice_weight);
     let ice_wind = at_most_one(acting & r.ice_wind);
-    cases & roof & wind & earthquake & flood & ice_weight & ice_wind
+    cases & fluid & roof & wind & earthquake & flood & ice_weight & ice_wind
 }
 
 // Whether these of the acting cases may take the low factor.

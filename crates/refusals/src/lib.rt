@@ -37,6 +37,7 @@ fn kind_outside(n: u8) -> bool
     let q = standard::class_of(n as usize);
     match q {
         Class::Always => false,
+        Class::Together => false,
         Class::Subset => false,
         Class::OneOf(_) => false,
         Class::Unknown => true,

@@ -15,7 +15,7 @@ use Rattle.integers.proofs.Masks.{bit-in-mask}
 use Rattle.integers.proofs.Tests.{and-left, and-right, and-both, or-cases}
 use Rattle.standard.specs.declared.Settings.{Settings}
 use Rattle.standard.specs.declared.Class.{Class}
-use Rattle.standard.specs.declared.Class.the-variants.{Always, Subset, OneOf, Unknown}
+use Rattle.standard.specs.declared.Class.the-variants.{Always, Together, Subset, OneOf, Unknown}
 use Rattle.standard.specs.Kinds.{classes, classOf, unknown, kindCount, groupCount, permanentEarth}
 use Rattle.standard.specs.Rows.{Live, num, f, Line, blank, lines, liveFactor, roofFactor, snowFactor, columns, rowCount, factorOf, lowOf, Span, rowsTo, plainRows, byZone, floodRows, byIce, iceRows, openRows, within, inSpans}
 use Rattle.standard.specs.Columns.{factoredKinds, kindsIn}
@@ -66,6 +66,7 @@ low-le-full s r h =
 -- a kind that is unknown has no factor
 unknown-test : Class → ℕ → Bool
 unknown-test Always x = true
+unknown-test Together x = true
 unknown-test Subset x = true
 unknown-test (OneOf g) x = true
 unknown-test Unknown x = eqb x 0
@@ -102,6 +103,7 @@ known-kind k e = (some k e, go (decLt k kindCount))
 -- a group is one of the groups
 group-test : Class → Bool
 group-test Always = true
+group-test Together = true
 group-test Subset = true
 group-test (OneOf g) = ltb g groupCount
 group-test Unknown = true
@@ -218,6 +220,7 @@ groupFactor l g = getD (snowFactor (l .roof) ∷ l .wind ∷ l .quake ∷ l .flo
 
 shared-test : Line → Class → ℕ → Bool
 shared-test l Always x = true
+shared-test l Together x = true
 shared-test l Subset x = true
 shared-test l (OneOf g) x = eqb x 0 || eqb x (groupFactor l g)
 shared-test l Unknown x = true

@@ -9,7 +9,11 @@ use lib.IntN.{ℤ}
 use lib.Signed.{_≤ℤ_}
 use Rattle.standard.specs.declared.Settings.{Settings}
 use Rattle.standard.specs.declared.Capacities.{Capacities}
-use Rattle.standard.specs.Combination.{Combination, Admissible, factoredEffect, utilisationOf, denominatorOf}
+use Rattle.standard.specs.Combination.{Combination, Admissible, emptied, factoredEffect, utilisationOf, denominatorOf}
+
+-- The empty tank is among the combinations considered: what is admissible is so with no F case acting (SCOPE 4.2).
+abbrev pub EmptyTankConsidered : Settings → (ℕ → ℕ) → Type 0
+EmptyTankConsidered s kind = (c : Combination) → Admissible s kind c → Admissible s kind (emptied kind c)
 
 -- c is admissible and gives the number (SCOPE 10.3)
 pub record Reaches (s : Settings) (kind : ℕ → ℕ) (effect : ℕ → ℤ) (c : Combination) (value : ℤ) : Type 0 where

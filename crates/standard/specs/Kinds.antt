@@ -4,15 +4,15 @@ use mathlib.Core.Bool.{Bool, true, false}
 use mathlib.Core.List.{List, [], _∷_}
 use lib.ListN.{getD}
 use Rattle.standard.specs.declared.Class.{Class}
-use Rattle.standard.specs.declared.Class.the-variants.{Always, Subset, OneOf, Unknown}
+use Rattle.standard.specs.declared.Class.the-variants.{Always, Together, Subset, OneOf, Unknown}
 
 -- By kind, from 0, an empty place: D, F, Hp, Hv, L, Lr, S, R, W, E, Fa, Di, Wi.
--- All D, F and Hp cases act; any subset of Hv and of L; at most one among Lr, S and R together; at most one W, one E, one Fa, one Di, one
--- Wi (SCOPE 4.2).
+-- All D and Hp cases act; the F cases all together or not at all; any subset of Hv and of L; at most one among Lr, S and R together; at
+-- most one W, one E, one Fa, one Di, one Wi (SCOPE 4.2).
 abbrev pub classes : List Class
 classes =
     Unknown
-    ∷ Always ∷ Always ∷ Always
+    ∷ Always ∷ Together ∷ Always
     ∷ Subset ∷ Subset
     ∷ OneOf 0 ∷ OneOf 0 ∷ OneOf 0
     ∷ OneOf 1 ∷ OneOf 2 ∷ OneOf 3
@@ -25,6 +25,7 @@ classOf kind = getD classes kind Unknown
 -- a number that is no kind has no class; as a kind it is refused (SCOPE 7.1)
 abbrev pub unknown : Class → Bool
 unknown Always = false
+unknown Together = false
 unknown Subset = false
 unknown (OneOf g) = false
 unknown Unknown = true
@@ -35,6 +36,10 @@ groupCount = 6
 
 abbrev pub kindCount : ℕ
 kindCount = 14
+
+-- F, whose cases are absent while the tank is empty (SCOPE 2.3, 4.2)
+abbrev pub fluid : ℕ
+fluid = 2
 
 -- Hp, whose cases may take the low factor (SCOPE 2.3, 4.3)
 abbrev pub permanentEarth : ℕ

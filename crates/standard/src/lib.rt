@@ -46,9 +46,10 @@ pub fn fresh_settings() -> Settings
     Settings::of(1, 0, 0)
 }
 
-// How the cases of a kind may act: all of them, any subset, at most one of a group of kinds.
+// How the cases of a kind may act: all of them, all together or none, any subset, at most one of a group of kinds.
 pub enum Class {
     Always,
+    Together,
     Subset,
     OneOf(usize),
     Unknown,
@@ -65,7 +66,9 @@ pub fn class_of(kind: usize) -> Class
     ensures { λ r. ⌜ r ≡ classOf kind ⌝ }
 {
     match kind {
-        1..=3 => Class::Always,
+        1 => Class::Always,
+        2 => Class::Together,
+        3 => Class::Always,
         4..=5 => Class::Subset,
         6..=8 => Class::OneOf(0),
         9..=13 => Class::OneOf(kind - 8),

@@ -15,6 +15,12 @@ use naming::Sets;
 use standard::Capacities;
 use standard::Settings;
 
+// The pattern of signs that governs, and whether the F cases act in it.
+pub struct Found {
+    pub peak: Peak,
+    pub fluid: bool,
+}
+
 // A governing number with its combination, whose sets are of the cases.
 fn extreme(value: i64, row: usize, sets: Sets) -> Extreme
     requires { ⌜ (sets .acting < 2 ^ caseCount) × (sets .low < 2 ^ caseCount) ⌝ }
@@ -39,8 +45,10 @@ pub fn extremes_of(s: Settings, kinds: &[u8], effects: &[i16], component: usize)
     let sums = sums::sums_of(&places, effects, component);
     let most = governing::toward(s, &sums, 0, 1);
     let least = governing::toward(s, &sums, 1, 0);
-    let above = naming::sets_at(most.row, &places, effects, component, false);
-    let below = naming::sets_at(least.row, &places, effects, component, true);
+    let raised = sums::fluid_acts(&sums, 0, 1);
+    let lowered = sums::fluid_acts(&sums, 1, 0);
+    let above = naming::sets_at(most.row, &places, effects, component, false, raised);
+    let below = naming::sets_at(least.row, &places, effects, component, true, lowered);
     let value = integers::negated(least.value);
     Extremes {
         maximum: extreme(most.value, most.row, above),
@@ -71,8 +79,8 @@ fn pattern_weights(p: Capacities, pattern: usize) -> Weights
     }
 }
 
-// The pattern of signs with the greatest numerator, from one pass over the cases.
-fn peak_of(s: Settings, places: &[u64], effects: &[i16], p: Capacities) -> Peak
+// The pattern of signs with the greatest numerator, and whether the F cases act in it, from one pass over the cases.
+fn peak_of(s: Settings, places: &[u64], effects: &[i16], p: Capacities) -> Found
     requires { ⌜ Placed (now places) × EffectsInRange (now effects) × CapacitiesInRange p ⌝ }
     ensures { λ r. ⌜ PeakOf r s (now (places .entry)) (effectOf (now (effects .entry))) p ⌝ }
 {
@@ -82,7 +90,9 @@ fn peak_of(s: Settings, places: &[u64], effects: &[i16], p: Capacities) -> Peak
     let mut s3 = [0u64; sums::SUMS];
     let w = pattern_weights(p, 0);
     directions::four_sums_of(&mut s0, &mut s1, &mut s2, &mut s3, places, effects, w);
-    governing::highest(s, &s0, &s1, &s2, &s3)
+    let peak = governing::highest(s, &s0, &s1, &s2, &s3);
+    let fluid = directions::fluid_in(&s0, &s1, &s2, &s3, peak.pattern);
+    Found { peak, fluid }
 }
 
 fn denominator_of(p: Capacities) -> u64
@@ -100,10 +110,11 @@ pub fn utilisation_of(s: Settings, kinds: &[u8], effects: &[i16], p: Capacities)
     ensures { λ r. ⌜ (r ≡ utilisedOf s (kindOf (now (kinds .entry))) (effectOf (now (effects .entry))) p) × (KnownMethod s → UtilisationGoverns s (kindOf (now (kinds .entry))) (effectOf (now (effects .entry))) p r) ⌝ }
 {
     let places = sums::places_of(kinds);
-    let q = peak_of(s, &places, effects, p);
+    let found = peak_of(s, &places, effects, p);
+    let q = found.peak;
     let best = q.best;
     let w = pattern_weights(p, q.pattern);
-    let sets = naming::sets_by(best.row, &places, effects, w);
+    let sets = naming::sets_by(best.row, &places, effects, w, found.fluid);
     let x = extreme(best.value, best.row, sets);
     let numerator = integers::magnitude(x.value);
     let denominator = denominator_of(p);

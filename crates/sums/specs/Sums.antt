@@ -4,14 +4,14 @@ use Prim.Native.Nat.{ℕ, zero, suc, _+_, _*_, _<_, _≤_, _^_, max}
 use mathlib.Core.Bool.{Bool, true, false, cond}
 use mathlib.Core.List.{List}
 use mathlib.Core.Path.{_≡_}
-use lib.Dec.{eqb}
+use lib.Dec.{eqb, ltb}
 use lib.IntN.{ℤ, pos, negℤ, natAbs}
 use lib.ListN.{length, getD, set}
 use Rattle.integers.specs.Sums.{when, sum, most, up, down}
 use Rattle.integers.specs.Sets.{has}
 use Rattle.standard.specs.declared.Class.{Class}
-use Rattle.standard.specs.declared.Class.the-variants.{Always, Subset, OneOf, Unknown}
-use Rattle.standard.specs.Kinds.{classOf, kindCount}
+use Rattle.standard.specs.declared.Class.the-variants.{Always, Together, Subset, OneOf, Unknown}
+use Rattle.standard.specs.Kinds.{classOf, kindCount, fluid}
 use Rattle.standard.specs.Combination.{caseCount}
 use Rattle.envelope.specs.Range.{effectMost}
 use Rattle.sums.specs.declared.Sides.{Sides}
@@ -24,6 +24,7 @@ partOf (suc t) x = down x
 -- at most one case of a group acts: of its kinds the greatest case is held, of the others the sum
 abbrev pub alone : Class → Bool
 alone Always = false
+alone Together = false
 alone Subset = false
 alone (OneOf g) = true
 alone Unknown = false
@@ -76,6 +77,10 @@ sumCount = kindCount * 2
 -- of kind j on side t
 abbrev pub heldAt : List ℕ → ℕ → ℕ → ℕ
 heldAt sums j t = getD sums (j * 2 + t) 0
+
+-- whether what the F cases make on a side is more than on the other
+abbrev pub fluidActs : List ℕ → (over under : ℕ) → Bool
+fluidActs sums over under = ltb (heldAt sums fluid under) (heldAt sums fluid over)
 
 abbrev pub sidesPut : List ℕ → ℕ → Sides → List ℕ
 sidesPut sums j s = set (set sums (j * 2) (up (s .above))) (j * 2 + 1) (down (s .below))

@@ -6,7 +6,7 @@ ghost use Rattle.standard.specs.Combination.{caseCount};
 ghost use Rattle.standard.specs.Kinds.{classOf, kindCount};
 ghost use Rattle.envelope.specs.Range.{kindOf, effectOf, KindsInRange, EffectsInRange};
 ghost use Rattle.envelope.specs.Places.{Places, PlacesInRange};
-ghost use Rattle.sums.specs.Sums.{alone, sidesWith, SidesRoom, SidesInRange, sidesIn, sidesPut, sumCount, SumsOf};
+ghost use Rattle.sums.specs.Sums.{alone, sidesWith, SidesRoom, SidesInRange, sidesIn, sidesPut, sumCount, SumsOf, fluidActs};
 use standard::CASES;
 use standard::Class;
 use standard::KINDS;
@@ -15,6 +15,9 @@ use standard::KINDS;
 pub const SUMS: usize = KINDS * 2;
 
 pub type Sums = [u64; SUMS];
+
+// The kind F.
+const FLUID: usize = 2;
 
 // What the effects of the cases of a kind make above zero and, with its sign, below.
 pub struct Sides {
@@ -48,6 +51,7 @@ pub fn acts_alone(kind: usize) -> bool
     let q = standard::class_of(kind);
     match q {
         Class::Always => false,
+        Class::Together => false,
         Class::Subset => false,
         Class::OneOf(_) => true,
         Class::Unknown => false,
@@ -109,4 +113,14 @@ pub fn sums_of(places: &[u64], effects: &[i16], component: usize) -> Sums
         kind += 1;
     }
     sums
+}
+
+// Whether the F cases act: their total is above zero, for the effects as they are at 0 over 1, negated at 1 over 0.
+pub fn fluid_acts(sums: &[u64], over: usize, under: usize) -> bool
+    requires { ⌜ (length (now sums) ≡ sumCount) × (over < 2) × (under < 2) ⌝ }
+    ensures { λ r. ⌜ r ≡ fluidActs (now (sums .entry)) over under ⌝ }
+{
+    let plus = FLUID * 2 + over;
+    let minus = FLUID * 2 + under;
+    sums[minus] < sums[plus]
 }

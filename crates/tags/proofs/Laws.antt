@@ -6,6 +6,7 @@ use mathlib.Core.Path.{_≡_, refl, sym, ap, subst}
 use lib.Dec.{eqb}
 use mathlib.Core.List.{List, [], _∷_}
 use lib.ListN.{getD}
+use Rattle.integers.proofs.Tests.{past}
 use Rattle.wire.specs.Bytes.{byteAt, wordAt, signed16}
 use Rattle.standard.specs.Rows.{settingsOf}
 use Rattle.sheet.specs.declared.Sheet.{Sheet}
@@ -64,10 +65,6 @@ module _ (P : Answered → Type 0) (s : Sheet) (tag : ℕ) (b : List ℕ) where
       at (suc (suc (suc (suc (suc zero))))) = subst P (sym (extremes-ran s b)) p6
       at (suc (suc (suc (suc (suc (suc zero)))))) = subst P (sym (utilisation-ran s b)) p7
       at (suc (suc (suc (suc (suc (suc (suc k))))))) = eighth k
-
--- at least k and not k
-past : {n : ℕ} (k : ℕ) → k ≤ n → (n ≡ k → ⊥) → suc k ≤ n
-past k h f = omega arith
 
 -- the arm of the match that is left
 pub last-tag : (tag : ℕ) → unknownTag tag ≡ false → (tag ≡ 1 → ⊥) → (tag ≡ 2 → ⊥) → (tag ≡ 3 → ⊥) → (tag ≡ 4 → ⊥) → (tag ≡ 5 → ⊥) → (tag ≡ 6 → ⊥) → (tag ≡ 7 → ⊥) → tag ≡ 8

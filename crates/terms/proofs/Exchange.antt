@@ -6,23 +6,23 @@ use native.Mathlib.Omega.{arith}
 use mathlib.Core.Path.{_≡_, refl, sym, ap, _∙_, subst}
 use mathlib.Core.Bool.{Bool, true, false, false≢true}
 use mathlib.Core.List.{List}
-use borrow.Author.Tests.{ne-eqb}
-use lib.Dec.{eqb}
+use borrow.Author.Tests.{ne-eqb, lt-ltb, le-ltb}
+use lib.Dec.{eqb, ltb}
 use lib.IntN.{ℤ, pos, negℤ, _+ℤ_, _-ℤ_, natAbs}
 use Rattle.integers.specs.Sums.{when, sum, most, up, down}
-use Rattle.integers.proofs.Signs.{abs-add, abs-negated, neg-up, neg-down}
-use Rattle.integers.proofs.Sums.{eqb-cases, sum-same, sum-mono, sum-only, sum-swap, sum-times, sum-most, most-ge, most-le, most-same, most-times}
+use Rattle.integers.proofs.Signs.{eq-in, add-parts, one-part, abs-add, abs-parts, abs-negated, neg-up, neg-down}
+use Rattle.integers.proofs.Sums.{eqb-cases, ltb-cases, sum-same, sum-mono, sum-only, sum-swap, sum-times, sum-parts, sum-most, most-ge, most-le, most-same, most-times}
 use Rattle.standard.specs.declared.Settings.{Settings}
 use Rattle.standard.specs.declared.Class.{Class}
-use Rattle.standard.specs.declared.Class.the-variants.{Always, Subset, OneOf, Unknown}
-use Rattle.standard.specs.Kinds.{classOf, kindCount, groupCount}
+use Rattle.standard.specs.declared.Class.the-variants.{Always, Together, Subset, OneOf, Unknown}
+use Rattle.standard.specs.Kinds.{classOf, kindCount, groupCount, fluid}
 use Rattle.standard.specs.Rows.{factorOf}
 use Rattle.standard.specs.Combination.{caseCount}
-use Rattle.optimum.specs.Row.{greatestBy, leastBy, groupBy, lowerOf, greatestOf, leastOf, groupOf, rowMaximum, worthOf}
+use Rattle.optimum.specs.Row.{greatestBy, leastBy, groupBy, isTogether, lowerOf, greatestOf, leastOf, groupOf, jointOf, totalOf, gainOf, rowMaximum, worthOf}
 use Rattle.envelope.specs.Range.{effectMost}
-use Rattle.sums.specs.Sums.{partOf, ofKind, alone, heldBy, heldOf, heldAt, Summed}
+use Rattle.sums.specs.Sums.{partOf, ofKind, alone, heldBy, heldOf, heldAt, fluidActs, Summed}
 use Rattle.terms.specs.Value.{termsBy, termsOf, TermsInRange, valueOf}
-use Rattle.terms.proofs.Lines.{byGroup, gainBy, lossBy, by-terms}
+use Rattle.terms.proofs.Lines.{byGroup, excess, gainBy, lossBy, by-terms}
 use Rattle.sums.proofs.Held.{held-le, part-le}
 
 module _ (n K : ℕ) (kind p : ℕ → ℕ) (below : (k : ℕ) → kind k < K) where
@@ -74,14 +74,16 @@ module _ (n K : ℕ) (kind p : ℕ → ℕ) (below : (k : ℕ) → kind k < K) w
     most-of-kinds = le-antisymm (most-le K (most n byCase) byKind (λ j l. kind-le j)) (most-le n (most K byKind) byCase case-le)
 
 -- a kind of a group gives nothing by itself, and another kind stands in no group
-alone-none : (q : Class) (f : ℕ) → alone q ≡ true → (greatestBy q f ≡ 0) × (leastBy q f ≡ 0)
+alone-none : (q : Class) (f : ℕ) → alone q ≡ true → (greatestBy q f ≡ 0) × (leastBy q f ≡ 0) × (when (isTogether q) f ≡ 0)
 alone-none Always f e = absurd (false≢true e)
+alone-none Together f e = absurd (false≢true e)
 alone-none Subset f e = absurd (false≢true e)
-alone-none (OneOf g) f e = (refl, refl)
+alone-none (OneOf g) f e = (refl, refl, refl)
 alone-none Unknown f e = absurd (false≢true e)
 
 groupless : (q : Class) → alone q ≡ false → groupBy q ≡ groupCount
 groupless Always e = refl
+groupless Together e = refl
 groupless Subset e = refl
 groupless (OneOf g) e = absurd (false≢true (sym e))
 groupless Unknown e = refl
@@ -95,6 +97,10 @@ module _ (s : Settings) (row : ℕ) where
   unfolding leastOf
   alone-loss j e = alone-none (classOf j) (lowerOf s row j) e .1
 
+  alone-joint : (j : ℕ) → alone (classOf j) ≡ true → jointOf s row j ≡ 0
+  unfolding jointOf
+  alone-joint j e = alone-none (classOf j) (factorOf s row j) e .2
+
   no-gain : greatestOf s row 0 ≡ 0
   unfolding greatestOf classOf
   no-gain = refl
@@ -103,20 +109,29 @@ module _ (s : Settings) (row : ℕ) where
   unfolding leastOf classOf
   no-loss = refl
 
+  no-joint : jointOf s row 0 ≡ 0
+  unfolding jointOf classOf
+  no-joint = refl
+
 -- u holds the parts p of the cases by kind
 Holds : ℕ → (kind p u : ℕ → ℕ) → Type 0
 Holds n kind p u = (j : ℕ) → 0 < j → j < kindCount → u j ≡ heldOf j n (ofKind kind p j)
 
+-- a weight that the kinds of groups do not have goes by the other kinds alone
+weighs : (w x y : ℕ → ℕ) → w 0 ≡ 0 → ((j : ℕ) → alone (classOf j) ≡ true → w j ≡ 0) →
+    ((j : ℕ) → 0 < j → j < kindCount → alone (classOf j) ≡ false → x j ≡ y j) → (j : ℕ) → j < kindCount → w j * x j ≡ w j * y j
+weighs w x y none late same zero l = rw none (omega arith)
+weighs w x y none late same (suc j) l = go (alone (classOf (suc j))) refl
+  where
+    go : (t : Bool) → alone (classOf (suc j)) ≡ t → w (suc j) * x (suc j) ≡ w (suc j) * y (suc j)
+    go true e = rw (late (suc j) e) (omega arith)
+    go false e = ap (λ (z : ℕ). w (suc j) * z) (same (suc j) (omega arith) l e)
+
 module _ (n : ℕ) (kind p u : ℕ → ℕ) (h : Holds n kind p u) where
-  -- a weight that the kinds of groups do not have finds sums
-  weighs : (w : ℕ → ℕ) → w 0 ≡ 0 → ((j : ℕ) → alone (classOf j) ≡ true → w j ≡ 0) → (j : ℕ) → j < kindCount → w j * u j ≡ w j * sum n (ofKind kind p j)
+  -- of these kinds sums are held
+  summed : (j : ℕ) → 0 < j → j < kindCount → alone (classOf j) ≡ false → u j ≡ sum n (ofKind kind p j)
   unfolding heldBy Holds
-  weighs w none late zero l = rw none (omega arith)
-  weighs w none late (suc j) l = go (alone (classOf (suc j))) refl
-    where
-      go : (t : Bool) → alone (classOf (suc j)) ≡ t → w (suc j) * u (suc j) ≡ w (suc j) * sum n (ofKind kind p (suc j))
-      go true e = rw (late (suc j) e) (omega arith)
-      go false e = ap (λ (x : ℕ). w (suc j) * x) (h (suc j) (omega arith) l ∙ rw e)
+  summed j p l e = h j p l ∙ rw e
 
   -- and a group finds maxima
   leads : (f : ℕ → ℕ) (g : ℕ) → g < groupCount → (j : ℕ) → j < kindCount →
@@ -129,9 +144,40 @@ module _ (n : ℕ) (kind p u : ℕ → ℕ) (h : Holds n kind p u) where
       go true e = ap (λ (x : ℕ). when (eqb (groupOf (suc j)) g) (f (suc j) * x)) (h (suc j) (omega arith) l ∙ rw e)
       go false e = rw (groupless (classOf (suc j)) e, ne-eqb groupCount g (λ q. omega arith))
 
--- the value of a row from what is held above zero and below
+less-excess : (a b : ℕ) → ltb b a ≡ ltb 0 (up (pos a +ℤ negℤ (pos b)))
+less-excess a b =
+    let z : ℤ = pos a +ℤ negℤ (pos b) in
+    let parts : up z + b ≡ a + down z = omega (arith, add-parts (pos a) (negℤ (pos b)), neg-up (pos b), neg-down (pos b)) in
+    ltb-cases b a (λ t. t ≡ ltb 0 (up z))
+    (λ l. sym (lt-ltb 0 (up z) (omega (arith, parts))))
+    (λ l. sym (le-ltb 0 (up z) (omega (arith, parts, one-part z))))
+
+-- the value of a row from what is held above zero and below, and whether F acts
 module _ (kind : ℕ → ℕ) (e : ℕ → ℤ) (below : (k : ℕ) → kind k < kindCount) (u d : ℕ → ℕ)
     (hu : Holds caseCount kind (λ k. up (e k)) u) (hd : Holds caseCount kind (λ k. down (e k)) d) where
+  -- of a kind whose effects are added up, what is held is their total
+  total-held : (j : ℕ) → 0 < j → j < kindCount → alone (classOf j) ≡ false → excess u d j ≡ totalOf kind e j
+  unfolding totalOf
+  total-held j p l a =
+      let above = summed caseCount kind (λ k. up (e k)) u hu j p l a ∙ counted j (λ k. up (e k)) in
+      let less = summed caseCount kind (λ k. down (e k)) d hd j p l a ∙ counted j (λ k. down (e k)) in
+      eq-in (excess u d j) (totalOf kind e j)
+      (omega (
+        arith,
+        add-parts (pos (u j)) (negℤ (pos (d j))),
+        neg-up (pos (d j)),
+        neg-down (pos (d j)),
+        sum-parts caseCount (λ k. when (eqb (kind k) j) 1) e,
+      ))
+    where
+      counted : (j : ℕ) (part : ℕ → ℕ) → sum caseCount (ofKind kind part j) ≡ sum caseCount (λ k. when (eqb (kind k) j) 1 * part k)
+      counted j part = sum-same caseCount (ofKind kind part j) (λ k. when (eqb (kind k) j) 1 * part k)
+          (λ k _. eqb-cases (kind k) j (λ t. when t (part k) ≡ when t 1 * part k) (λ _. omega arith) (λ _. omega arith))
+
+  fluid-held : ltb (d fluid) (u fluid) ≡ ltb 0 (up (totalOf kind e fluid))
+  unfolding classOf
+  fluid-held = less-excess (u fluid) (d fluid) ∙ ap (λ (z : ℤ). ltb 0 (up z)) (total-held fluid (omega arith) (omega arith) refl)
+
   held-value : (s : Settings) (row : ℕ) → valueOf s row (termsBy u d) ≡ rowMaximum s row kind e
   unfolding rowMaximum
   held-value s row = by-terms s row u d ∙ (λ i. pos (gain i) -ℤ pos (loss i))
@@ -139,13 +185,13 @@ module _ (kind : ℕ → ℕ) (e : ℕ → ℤ) (below : (k : ℕ) → kind k < 
       loss : lossBy s row d ≡ sum caseCount (λ k. leastOf s row (kind k) * down (e k))
       loss =
           sum-same kindCount (λ j. leastOf s row j * d j) (λ j. leastOf s row j * sum caseCount (ofKind kind (λ k. down (e k)) j))
-          (weighs caseCount kind (λ k. down (e k)) d hd (leastOf s row) (no-loss s row) (alone-loss s row))
+          (weighs (leastOf s row) d (λ j. sum caseCount (ofKind kind (λ k. down (e k)) j)) (no-loss s row) (alone-loss s row) (summed caseCount kind (λ k. down (e k)) d hd))
           ∙ sum-of-kinds caseCount kindCount kind (λ k. down (e k)) below (leastOf s row)
 
       own : sum kindCount (λ j. greatestOf s row j * u j) ≡ sum caseCount (λ k. greatestOf s row (kind k) * up (e k))
       own =
           sum-same kindCount (λ j. greatestOf s row j * u j) (λ j. greatestOf s row j * sum caseCount (ofKind kind (λ k. up (e k)) j))
-          (weighs caseCount kind (λ k. up (e k)) u hu (greatestOf s row) (no-gain s row) (alone-gain s row))
+          (weighs (greatestOf s row) u (λ j. sum caseCount (ofKind kind (λ k. up (e k)) j)) (no-gain s row) (alone-gain s row) (summed caseCount kind (λ k. up (e k)) u hu))
           ∙ sum-of-kinds caseCount kindCount kind (λ k. up (e k)) below (greatestOf s row)
 
       led : (g : ℕ) → g < groupCount → most kindCount (byGroup s row u g) ≡ most caseCount (worthOf s row kind e g)
@@ -154,8 +200,15 @@ module _ (kind : ℕ → ℕ) (e : ℕ → ℤ) (below : (k : ℕ) → kind k < 
           (leads caseCount kind (λ k. up (e k)) u hu (factorOf s row) g l)
           ∙ most-of-kinds caseCount kindCount kind (λ k. up (e k)) below groupOf (factorOf s row) g
 
-      gain : gainBy s row u ≡ sum caseCount (λ k. greatestOf s row (kind k) * up (e k)) + sum groupCount (λ g. most caseCount (worthOf s row kind e g))
-      gain = λ i. own i + sum-same groupCount (λ g. most kindCount (byGroup s row u g)) (λ g. most caseCount (worthOf s row kind e g)) led i
+      joint : (j : ℕ) → j < kindCount → jointOf s row j * up (excess u d j) ≡ jointOf s row j * up (totalOf kind e j)
+      joint =
+          weighs (jointOf s row) (λ j. up (excess u d j)) (λ j. up (totalOf kind e j)) (no-joint s row) (alone-joint s row)
+          (λ j p l a. ap up (total-held j p l a))
+
+      gain : gainBy s row u d ≡ gainOf s row kind e
+      gain =
+          λ i. own i + sum-same groupCount (λ g. most kindCount (byGroup s row u g)) (λ g. most caseCount (worthOf s row kind e g)) led i
+          + sum-same kindCount (λ j. jointOf s row j * up (excess u d j)) (λ j. jointOf s row j * up (totalOf kind e j)) joint i
 
 module _ (sums : List ℕ) (kind : ℕ → ℕ) (e : ℕ → ℤ) (below : (k : ℕ) → kind k < kindCount) (h : Summed sums kind e) where
   holds : (t : ℕ) → t < 2 → Holds caseCount kind (λ k. partOf t (e k)) (λ j. heldAt sums j t)
@@ -163,14 +216,24 @@ module _ (sums : List ℕ) (kind : ℕ → ℕ) (e : ℕ → ℤ) (below : (k : 
   holds t m = λ j p l. h .held j t p l m
 
   -- as they are, and negated: what is above zero of the one is below zero of the other
+  turned-up : Holds caseCount kind (λ k. up (negℤ (e k))) (λ j. heldAt sums j 1)
+  turned-up = subst (λ (p : ℕ → ℕ). Holds caseCount kind p (λ j. heldAt sums j 1)) (λ i k. sym (neg-up (e k)) i) (holds 1 (omega arith))
+
+  turned-down : Holds caseCount kind (λ k. down (negℤ (e k))) (λ j. heldAt sums j 0)
+  turned-down = subst (λ (p : ℕ → ℕ). Holds caseCount kind p (λ j. heldAt sums j 0)) (λ i k. sym (neg-down (e k)) i) (holds 0 (omega arith))
+
   pub value-is : (s : Settings) (row : ℕ) → valueOf s row (termsOf sums 0 1) ≡ rowMaximum s row kind e
   value-is s row = held-value kind e below (λ j. heldAt sums j 0) (λ j. heldAt sums j 1) (holds 0 (omega arith)) (holds 1 (omega arith)) s row
 
   pub negated-value-is : (s : Settings) (row : ℕ) → valueOf s row (termsOf sums 1 0) ≡ rowMaximum s row kind (λ k. negℤ (e k))
   negated-value-is s row =
-      held-value kind (λ k. negℤ (e k)) below (λ j. heldAt sums j 1) (λ j. heldAt sums j 0)
-      (subst (λ (p : ℕ → ℕ). Holds caseCount kind p (λ j. heldAt sums j 1)) (λ i k. sym (neg-up (e k)) i) (holds 1 (omega arith)))
-      (subst (λ (p : ℕ → ℕ). Holds caseCount kind p (λ j. heldAt sums j 0)) (λ i k. sym (neg-down (e k)) i) (holds 0 (omega arith))) s row
+      held-value kind (λ k. negℤ (e k)) below (λ j. heldAt sums j 1) (λ j. heldAt sums j 0) turned-up turned-down s row
+
+  pub fluid-is : fluidActs sums 0 1 ≡ ltb 0 (up (totalOf kind e fluid))
+  fluid-is = fluid-held kind e below (λ j. heldAt sums j 0) (λ j. heldAt sums j 1) (holds 0 (omega arith)) (holds 1 (omega arith))
+
+  pub negated-fluid-is : fluidActs sums 1 0 ≡ ltb 0 (up (totalOf kind (λ k. negℤ (e k)) fluid))
+  negated-fluid-is = fluid-held kind (λ k. negℤ (e k)) below (λ j. heldAt sums j 1) (λ j. heldAt sums j 0) turned-up turned-down
 
 -- ---- the sizes of the terms
 total : (H : ℕ → ℕ) (m : ℕ) → sum kindCount H ≤ m → H 1 + H 2 + H 3 + H 4 + H 5 + H 6 + H 7 + H 8 + H 9 + H 10 + H 11 + H 12 + H 13 ≤ m
@@ -216,7 +279,7 @@ small-terms : (u d : ℕ → ℕ) (m : ℕ) → u 1 + u 2 + u 3 + u 4 + u 5 + u 
 unfolding termsBy
 small-terms u d m hu hd l =
     record {
-      small = omega (arith, size-of-difference (u 1) (d 1), size-of-difference (u 2) (d 2), abs-negated (pos (d 3)));
+      small = omega (arith, size-of-difference (u 1) (d 1), size-of-difference (u 2) (d 2), abs-parts (excess u d 2), abs-negated (pos (d 3)));
       roof-up = refl;
       snow-up = refl;
     }

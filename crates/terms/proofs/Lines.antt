@@ -15,46 +15,47 @@ use Rattle.standard.proofs.Table.{tabulate, same-at}
 use Rattle.standard.specs.declared.Settings.{Settings}
 use Rattle.standard.specs.Kinds.{classOf, kindCount, groupCount}
 use Rattle.standard.specs.Rows.{factorOf}
-use Rattle.optimum.specs.Row.{lowerOf, greatestOf, leastOf, groupOf}
+use Rattle.optimum.specs.Row.{lowerOf, greatestOf, leastOf, groupOf, jointOf}
 use Rattle.terms.specs.Value.{termsBy, ownOf, singlesOf, valueOf}
 
 -- over the kinds, from what is held of each above zero and below
 abbrev pub byGroup : Settings → ℕ → (ℕ → ℕ) → ℕ → ℕ → ℕ
 byGroup s row u g j = when (eqb (groupOf j) g) (factorOf s row j * u j)
 
-abbrev pub gainBy : Settings → ℕ → (ℕ → ℕ) → ℕ
-gainBy s row u = sum kindCount (λ j. greatestOf s row j * u j) + sum groupCount (λ g. most kindCount (byGroup s row u g))
+-- what is above zero less what is below
+abbrev pub excess : (above below : ℕ → ℕ) → ℕ → ℤ
+excess u d j = pos (u j) +ℤ negℤ (pos (d j))
+
+abbrev pub gainBy : Settings → ℕ → (above below : ℕ → ℕ) → ℕ
+gainBy s row u d =
+    sum kindCount (λ j. greatestOf s row j * u j) + sum groupCount (λ g. most kindCount (byGroup s row u g))
+    + sum kindCount (λ j. jointOf s row j * up (excess u d j))
 
 abbrev pub lossBy : Settings → ℕ → (ℕ → ℕ) → ℕ
 lossBy s row d = sum kindCount (λ j. leastOf s row j * d j)
 
 -- z is g less l
-Is : ℤ → ℕ → ℕ → Type 0
-Is z g l = up z + l ≡ g + down z
+record Is (z : ℤ) (g l : ℕ) : Type 0 where
+  parts : up z + l ≡ g + down z
 
-with-term : (z x : ℤ) (f g l a b : ℕ) → Is z g l → Is x a b → Is (z +ℤ pos f *ℤ x) (g + f * a) (l + f * b)
-unfolding Is
-with-term z x f g l a b h k = omega (arith, add-parts z (pos f *ℤ x), mul-up f x, mul-down f x, ap (λ (n : ℕ). f * n) k)
+with-term : {z x : ℤ} {g l a b : ℕ} (f : ℕ) → Is z g l → Is x a b → Is (z +ℤ pos f *ℤ x) (g + f * a) (l + f * b)
+with-term {z} {x} f h k =
+    record { parts = omega (arith, h .parts, add-parts z (pos f *ℤ x), mul-up f x, mul-down f x, ap (λ (n : ℕ). f * n) (k .parts)) }
 
-with-pos : (z : ℤ) (g l m : ℕ) → Is z g l → Is (z +ℤ pos m) (g + m) l
-unfolding Is
-with-pos z g l m h = omega (arith, add-parts z (pos m))
+with-pos : {z : ℤ} {g l : ℕ} (m : ℕ) → Is z g l → Is (z +ℤ pos m) (g + m) l
+with-pos {z} m h = record { parts = omega (arith, h .parts, add-parts z (pos m)) }
 
 less : (a b : ℕ) → Is (pos a +ℤ negℤ (pos b)) a b
-unfolding Is
-less a b = omega (arith, add-parts (pos a) (negℤ (pos b)), neg-up (pos b), neg-down (pos b))
+less a b = record { parts = omega (arith, add-parts (pos a) (negℤ (pos b)), neg-up (pos b), neg-down (pos b)) }
 
 none-less : (b : ℕ) → Is (negℤ (pos b)) 0 b
-unfolding Is
-none-less b = omega (arith, neg-up (pos b), neg-down (pos b))
+none-less b = record { parts = omega (arith, neg-up (pos b), neg-down (pos b)) }
 
 just : (a : ℕ) → Is (pos a) a 0
-unfolding Is
-just a = omega arith
+just a = record { parts = omega arith }
 
-is-less : (z : ℤ) (g l : ℕ) → Is z g l → z ≡ pos g -ℤ pos l
-unfolding Is
-is-less z g l h = eq-in z (pos g -ℤ pos l) (omega (arith, add-parts (pos g) (negℤ (pos l)), neg-up (pos l), neg-down (pos l)))
+is-less : {z : ℤ} {g l : ℕ} → Is z g l → z ≡ pos g -ℤ pos l
+is-less {z} {g} {l} h = eq-in z (pos g -ℤ pos l) (omega (arith, h .parts, add-parts (pos g) (negℤ (pos l)), neg-up (pos l), neg-down (pos l)))
 
 times-max : (f a b : ℕ) → f * max a b ≡ max (f * a) (f * b)
 times-max f a b = ltb-cases a b (λ _. f * max a b ≡ max (f * a) (f * b)) (λ l. up-to a b (omega arith)) (λ l. down-to a b l)
@@ -65,8 +66,8 @@ times-max f a b = ltb-cases a b (λ _. f * max a b ≡ max (f * a) (f * b)) (λ 
     down-to : (a b : ℕ) → b ≤ a → f * max a b ≡ max (f * a) (f * b)
     down-to a b l = let m : max a b ≡ a = omega arith in let k : f * b ≤ f * a = mul-le-mul-left f l in rw m (omega arith)
 
-joined : {own line groups : ℕ} (m a b c d e : ℕ) → own ≡ line → groups ≡ m + a + b + c + d + e → own + groups ≡ line + m + a + b + c + d + e
-joined m a b c d e h k = omega (arith, h, k)
+joined : (own line groups joint m a b c d e : ℕ) → own + joint ≡ line → groups ≡ m + a + b + c + d + e → own + groups + joint ≡ line + m + a + b + c + d + e
+joined own line groups joint m a b c d e h k = omega (arith, h, k)
 
 -- three among kinds that give nothing
 amid : (z a b c : ℕ) → z ≡ 0 → max (max (max (max (max (max (max (max z a) b) c) 0) 0) 0) 0) 0 ≡ max (max a b) c
@@ -91,13 +92,18 @@ module _ (s : Settings) (row : ℕ) (u d : ℕ → ℕ) where
   unfolding factorOf
   roof-one = refl
 
-  loss-is : lossBy s row d ≡ 0 + f 1 * d 1 + f 2 * d 2 + f 3 * 0 + lowerOf s row 3 * d 3 + f 5 * 0 + f 9 * 0 + f 10 * 0 + f 11 * 0 + f 12 * 0 + f 13 * 0
+  loss-is : lossBy s row d ≡ 0 + f 1 * d 1 + f 2 * 0 + f 3 * 0 + lowerOf s row 3 * d 3 + f 5 * 0 + f 9 * 0 + f 10 * 0 + f 11 * 0 + f 12 * 0 + f 13 * 0
   unfolding sum leastOf lowerOf classOf
   loss-is = omega arith
 
-  own-is : sum kindCount (λ j. greatestOf s row j * u j) ≡ f 1 * u 1 + f 2 * u 2 + f 3 * u 3 + f 4 * u 4 + f 5 * u 5
+  own-is : sum kindCount (λ j. greatestOf s row j * u j) ≡ f 1 * u 1 + f 3 * u 3 + f 4 * u 4 + f 5 * u 5
   unfolding sum greatestOf classOf
   own-is = omega arith
+
+  -- F alone acts together
+  joint-is : sum kindCount (λ j. jointOf s row j * up (excess u d j)) ≡ f 2 * up (excess u d 2)
+  unfolding sum jointOf classOf
+  joint-is = omega arith
 
   roof-first : most 6 (byGroup s row u 0) ≡ 0
   unfolding most groupOf classOf
@@ -141,65 +147,32 @@ module _ (s : Settings) (row : ℕ) (u d : ℕ → ℕ) where
   unfolding sum
   groups-are = omega arith
 
-  own-line : sum kindCount (λ j. greatestOf s row j * u j) ≡ 0 + f 1 * u 1 + f 2 * u 2 + f 3 * (u 3 + u 4) + lowerOf s row 3 * 0 + f 5 * u 5
-  own-line = omega (arith, own-is, ap (λ (x : ℕ). x * u 4) earth-one)
+  own-line : sum kindCount (λ j. greatestOf s row j * u j) + sum kindCount (λ j. jointOf s row j * up (excess u d j))
+      ≡ 0 + f 1 * u 1 + f 2 * up (excess u d 2) + f 3 * (u 3 + u 4) + lowerOf s row 3 * 0 + f 5 * u 5
+  own-line = omega (arith, own-is, joint-is, ap (λ (x : ℕ). x * u 4) earth-one)
 
   roof-line : most kindCount (byGroup s row u 0) ≡ max (0 + f 6 * max (u 6) (u 8)) (0 + f 7 * u 7)
   roof-line = omega (arith, roof-is, times-max (f 6) (u 6) (u 8), ap (λ (x : ℕ). x * u 8) roof-one)
 
-  gain-is : gainBy s row u ≡
-      0 + f 1 * u 1 + f 2 * u 2 + f 3 * (u 3 + u 4) + lowerOf s row 3 * 0 + f 5 * u 5 + max (0 + f 6 * max (u 6) (u 8)) (0 + f 7 * u 7)
+  gain-is : gainBy s row u d ≡
+      0 + f 1 * u 1 + f 2 * up (excess u d 2) + f 3 * (u 3 + u 4) + lowerOf s row 3 * 0 + f 5 * u 5 + max (0 + f 6 * max (u 6) (u 8)) (0 + f 7 * u 7)
       + f 9 * u 9 + f 10 * u 10 + f 11 * u 11 + f 12 * u 12 + f 13 * u 13
   gain-is =
-      joined (max (0 + f 6 * max (u 6) (u 8)) (0 + f 7 * u 7)) (f 9 * u 9) (f 10 * u 10) (f 11 * u 11) (f 12 * u 12) (f 13 * u 13) own-line (groups-are ∙ (λ i. roof-line i + wind-is i + quake-is i + flood-is i + ice-is i + icewind-is i))
+      joined _ _ _ _ (max (0 + f 6 * max (u 6) (u 8)) (0 + f 7 * u 7)) (f 9 * u 9) (f 10 * u 10) (f 11 * u 11) (f 12 * u 12) (f 13 * u 13) own-line (groups-are ∙ (λ i. roof-line i + wind-is i + quake-is i + flood-is i + ice-is i + icewind-is i))
 
   -- the line, term by term
-  pub by-terms : valueOf s row (termsBy u d) ≡ pos (gainBy s row u) -ℤ pos (lossBy s row d)
+  pub by-terms : valueOf s row (termsBy u d) ≡ pos (gainBy s row u d) -ℤ pos (lossBy s row d)
   unfolding valueOf ownOf singlesOf termsBy
   by-terms =
-      let z1 : ℤ = pos 0 +ℤ pos (f 1) *ℤ (pos (u 1) +ℤ negℤ (pos (d 1))) in
-      let g1 : ℕ = 0 + f 1 * u 1 in
-      let l1 : ℕ = 0 + f 1 * d 1 in
-      let h1 : Is z1 g1 l1 = with-term (pos 0) (pos (u 1) +ℤ negℤ (pos (d 1))) (f 1) (0) (0) (u 1) (d 1) (just 0) (less (u 1) (d 1)) in
-      let z2 : ℤ = z1 +ℤ pos (f 2) *ℤ (pos (u 2) +ℤ negℤ (pos (d 2))) in
-      let g2 : ℕ = g1 + f 2 * u 2 in
-      let l2 : ℕ = l1 + f 2 * d 2 in
-      let h2 : Is z2 g2 l2 = with-term (z1) (pos (u 2) +ℤ negℤ (pos (d 2))) (f 2) (g1) (l1) (u 2) (d 2) (h1) (less (u 2) (d 2)) in
-      let z3 : ℤ = z2 +ℤ pos (f 3) *ℤ (pos (u 3 + u 4)) in
-      let g3 : ℕ = g2 + f 3 * (u 3 + u 4) in
-      let l3 : ℕ = l2 + f 3 * 0 in
-      let h3 : Is z3 g3 l3 = with-term (z2) (pos (u 3 + u 4)) (f 3) (g2) (l2) (u 3 + u 4) (0) (h2) (just (u 3 + u 4)) in
-      let z4 : ℤ = z3 +ℤ pos (lowerOf s row 3) *ℤ (negℤ (pos (d 3))) in
-      let g4 : ℕ = g3 + lowerOf s row 3 * 0 in
-      let l4 : ℕ = l3 + lowerOf s row 3 * d 3 in
-      let h4 : Is z4 g4 l4 = with-term (z3) (negℤ (pos (d 3))) (lowerOf s row 3) (g3) (l3) (0) (d 3) (h3) (none-less (d 3)) in
-      let z5 : ℤ = z4 +ℤ pos (f 5) *ℤ (pos (u 5)) in
-      let g5 : ℕ = g4 + f 5 * u 5 in
-      let l5 : ℕ = l4 + f 5 * 0 in
-      let h5 : Is z5 g5 l5 = with-term (z4) (pos (u 5)) (f 5) (g4) (l4) (u 5) (0) (h4) (just (u 5)) in
-      let m : ℕ = max (0 + f 6 * max (u 6) (u 8)) (0 + f 7 * u 7) in
-      let z6 : ℤ = z5 +ℤ pos m in
-      let g6 : ℕ = g5 + m in
-      let l6 : ℕ = l5 in
-      let h6 : Is z6 g6 l6 = with-pos (z5) (g5) (l5) m h5 in
-      let z7 : ℤ = z6 +ℤ pos (f 9) *ℤ (pos (u 9)) in
-      let g7 : ℕ = g6 + f 9 * u 9 in
-      let l7 : ℕ = l6 + f 9 * 0 in
-      let h7 : Is z7 g7 l7 = with-term (z6) (pos (u 9)) (f 9) (g6) (l6) (u 9) (0) (h6) (just (u 9)) in
-      let z8 : ℤ = z7 +ℤ pos (f 10) *ℤ (pos (u 10)) in
-      let g8 : ℕ = g7 + f 10 * u 10 in
-      let l8 : ℕ = l7 + f 10 * 0 in
-      let h8 : Is z8 g8 l8 = with-term (z7) (pos (u 10)) (f 10) (g7) (l7) (u 10) (0) (h7) (just (u 10)) in
-      let z9 : ℤ = z8 +ℤ pos (f 11) *ℤ (pos (u 11)) in
-      let g9 : ℕ = g8 + f 11 * u 11 in
-      let l9 : ℕ = l8 + f 11 * 0 in
-      let h9 : Is z9 g9 l9 = with-term (z8) (pos (u 11)) (f 11) (g8) (l8) (u 11) (0) (h8) (just (u 11)) in
-      let z10 : ℤ = z9 +ℤ pos (f 12) *ℤ (pos (u 12)) in
-      let g10 : ℕ = g9 + f 12 * u 12 in
-      let l10 : ℕ = l9 + f 12 * 0 in
-      let h10 : Is z10 g10 l10 = with-term (z9) (pos (u 12)) (f 12) (g9) (l9) (u 12) (0) (h9) (just (u 12)) in
-      let z11 : ℤ = z10 +ℤ pos (f 13) *ℤ (pos (u 13)) in
-      let g11 : ℕ = g10 + f 13 * u 13 in
-      let l11 : ℕ = l10 + f 13 * 0 in
-      let h11 : Is z11 g11 l11 = with-term (z10) (pos (u 13)) (f 13) (g10) (l10) (u 13) (0) (h10) (just (u 13)) in
-      is-less z11 g11 l11 h11 ∙ sym (λ i. pos (gain-is i) -ℤ pos (loss-is i))
+      let dead = with-term (f 1) (just 0) (less (u 1) (d 1)) in
+      let fluid = with-term (f 2) dead (just (up (excess u d 2))) in
+      let earth = with-term (f 3) fluid (just (u 3 + u 4)) in
+      let lowered = with-term (lowerOf s row 3) earth (none-less (d 3)) in
+      let live = with-term (f 5) lowered (just (u 5)) in
+      let roof = with-pos (max (0 + f 6 * max (u 6) (u 8)) (0 + f 7 * u 7)) live in
+      let wind = with-term (f 9) roof (just (u 9)) in
+      let quake = with-term (f 10) wind (just (u 10)) in
+      let flood = with-term (f 11) quake (just (u 11)) in
+      let ice = with-term (f 12) flood (just (u 12)) in
+      let icewind = with-term (f 13) ice (just (u 13)) in
+      is-less icewind ∙ sym (λ i. pos (gain-is i) -ℤ pos (loss-is i))

@@ -16,7 +16,7 @@ unfoldable pub termsBy : (above below : ℕ → ℕ) → Terms
 termsBy u d =
     record {
       dead = pos (u 1) +ℤ negℤ (pos (d 1));
-      fluid = pos (u 2) +ℤ negℤ (pos (d 2));
+      fluid = pos (up (pos (u 2) +ℤ negℤ (pos (d 2))));
       earth = pos (u 3) +ℤ pos (u 4);
       lowered = negℤ (pos (d 3));
       live = pos (u 5);

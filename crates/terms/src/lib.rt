@@ -10,8 +10,8 @@ ghost use Rattle.terms.specs.Value.{factorMost, Gained, termsOf, TermsIn
 use rows::RowTable;
 use standard::Settings;
 
-// What the factors of a row multiply: the cases of D, of F, of Hp and Hv, of Hp at the low factor, of L, then the greatest
-// of Lr and R, of S, of W, of E, of Fa, of Di and of Wi.
+// What the factors of a row multiply: the cases of D, of F where their total is above zero, of Hp and Hv, of Hp at the low
+// factor, of L, then the greatest of Lr and R, of S, of W, of E, of Fa, of Di and of Wi.
 pub struct Terms {
     pub dead: i64,
     pub fluid: i64,
@@ -53,7 +53,7 @@ pub fn terms_of(sums: &[u64], over: usize, under: usize) -> Terms
 {
     Terms {
         dead: excess(sums, 1, over, under),
-        fluid: excess(sums, 2, over, under),
+        fluid: integers::above_zero(excess(sums, 2, over, under)),
         earth: integers::added(held(sums, 3, over), held(sums, 4, over)),
         lowered: integers::negated(held(sums, 3, under)),
         live: held(sums, 5, over),

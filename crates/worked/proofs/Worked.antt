@@ -8,23 +8,25 @@ use mathlib.Core.Logic.{_⊎_, inl, inr}
 use mathlib.Core.Path.{_≡_, refl, ap, subst}
 use lib.Dec.{T, eqb, leb, eqb→eq, leb→le}
 use lib.IntN.{ℤ, pos, negsuc, negℤ}
+use lib.Signed.{_≤ℤ_}
 use lib.ListN.{length, List·getD-eq-default}
-use Rattle.integers.specs.Sums.{sum, most}
+use Rattle.integers.specs.Sums.{sum, sumℤ, most}
 use Rattle.integers.proofs.Tests.{and-left, and-right}
 use Rattle.standard.specs.declared.Settings.{Settings}
 use Rattle.standard.specs.declared.Capacities.{Capacities}
 use Rattle.standard.specs.Kinds.{classOf}
-use Rattle.standard.specs.Rows.{factorOf, lowOf, plainRows, floodRows, iceRows, openRows}
-use Rattle.standard.specs.Combination.{caseCount, denominatorOf}
-use Rattle.standard.specs.Governing.{Maximum, Minimum, Utilisation}
-use Rattle.optimum.specs.Row.{lowerOf, leastOf, greatestOf, groupOf, rowMaximum}
+use Rattle.standard.specs.Rows.{factorOf, lowOf, plainRows, floodRows, iceRows, openRows, openRow}
+use Rattle.standard.specs.Combination.{Combination, Admissible, factoredEffect, caseCount, denominatorOf}
+use Rattle.standard.specs.Governing.{Reaches, Maximum, Minimum, Utilisation}
+use Rattle.optimum.specs.Row.{lowerOf, leastOf, greatestOf, groupOf, jointOf, totalOf, rowMaximum, bestCombination}
+use Rattle.optimum.proofs.RowReached.{row-reached}
 use Rattle.envelope.specs.declared.Extreme.{Extreme}
 use Rattle.envelope.specs.declared.Utilised.{Utilised}
 use Rattle.envelope.specs.Range.{kindOf, listed}
 use Rattle.envelope.specs.Envelope.{bestFrom, bestAmong, bestOver, bestOf, governingOf, extremeIn, extremeOf, negatedOf, patternOf, peakOf, utilisedOf}
 use Rattle.envelope.proofs.Maximum.{namedBy, extreme-maximum, extreme-minimum}
 use Rattle.envelope.proofs.Utilisation.{namedIn, utilisation-greatest}
-use Rattle.worked.specs.Worked.{Frame, Claim, maximum, minimum, maximumInRow, utilisation, onlyN, Holds, Entry, worked, All, WorkedByHand}
+use Rattle.worked.specs.Worked.{Frame, Claim, maximum, minimum, maximumIn, utilisation, onlyN, MaximumIn, Holds, Entry, worked, All, WorkedByHand}
 
 same : ℤ → ℤ → Bool
 same (pos a) (pos b) = eqb a b
@@ -83,35 +85,66 @@ greatest f = extremeOf (f .settings) (kindOf (f .kinds)) (listed (f .effects))
 abbrev least : Frame → Extreme
 least f = negatedOf (extremeOf (f .settings) (kindOf (f .kinds)) (λ k. negℤ (listed (f .effects) k)))
 
+abbrev inRow : Frame → ℕ → ℤ
+inRow f row = rowMaximum (f .settings) row (kindOf (f .kinds)) (listed (f .effects))
+
 abbrev used : Frame → Capacities → Utilised
 used f p = utilisedOf (f .settings) (kindOf (f .kinds)) (onlyN (f .effects)) p
+
+-- each of the rows is open and has the number for its maximum
+reached : Frame → ℤ → List ℕ → Bool
+reached f v [] = true
+reached f v (row ∷ rows) = (openRow (f .settings) row && same (inRow f row) v) && reached f v rows
 
 meets : Frame → Claim → Bool
 meets f (maximum v) = same (greatest f .value) v
 meets f (minimum v) = same (least f .value) v
-meets f (maximumInRow v row) = eqb (greatest f .row) row && same (greatest f .value) v
+meets f (maximumIn v rows) = same (greatest f .value) v && reached f v rows
 meets f (utilisation p n d pass) = eqb (used f p .numerator) n && (eqb (used f p .denominator) d && alike (used f p .pass) pass)
 
--- what is computed holds over all admissible combinations
-holds : (f : Frame) (c : Claim) → T (fair f) → T (meets f c) → Holds f c
-unfolding meets
-holds f (maximum v) ok t = (
+-- the best combination of such a row is a maximum, where no combination is above
+all-reached : (f : Frame) (v : ℤ) →
+    ((d : Combination) → Admissible (f .settings) (kindOf (f .kinds)) d → factoredEffect (f .settings) (kindOf (f .kinds)) d (listed (f .effects)) ≤ℤ v) →
+    (rows : List ℕ) → T (reached f v rows) → MaximumIn f v rows
+unfolding reached
+all-reached f v none [] t = tt
+all-reached f v none (row ∷ rows) t =
+    let open-and-same = openRow (f .settings) row && same (inRow f row) v in
+    let h = and-left open-and-same (reached f v rows) t in (
+      (
+        bestCombination (f .settings) row (kindOf (f .kinds)) (listed (f .effects)),
+        refl,
+        record {
+          none-above = none;
+          named =
+              subst (Reaches (f .settings) (kindOf (f .kinds)) (listed (f .effects)) (bestCombination (f .settings) row (kindOf (f .kinds)) (listed (f .effects))))
+              (same-eq (inRow f row) v (and-right (openRow (f .settings) row) (same (inRow f row) v) h))
+              (row-reached (f .settings) row (kindOf (f .kinds)) (listed (f .effects)) (and-left (openRow (f .settings) row) (same (inRow f row) v) h));
+        },
+      ),
+      all-reached f v none rows (and-right open-and-same (reached f v rows) t),
+    )
+
+-- the greatest number that is computed is the maximum
+greatest-holds : (f : Frame) (v : ℤ) → T (fair f) → T (same (greatest f .value) v) → (c : Combination) × Maximum (f .settings) (kindOf (f .kinds)) (listed (f .effects)) c v
+greatest-holds f v ok t = (
   namedBy (greatest f),
   subst (Maximum (f .settings) (kindOf (f .kinds)) (listed (f .effects)) (namedBy (greatest f))) (same-eq (greatest f .value) v t)
       (extreme-maximum (f .settings) (kindOf (f .kinds)) (method f ok) (empty f ok) (listed (f .effects))),
 )
+
+-- what is computed holds over all admissible combinations
+holds : (f : Frame) (c : Claim) → T (fair f) → T (meets f c) → Holds f c
+unfolding meets
+holds f (maximum v) ok t = greatest-holds f v ok t
 holds f (minimum v) ok t = (
   namedBy (least f),
   subst (Minimum (f .settings) (kindOf (f .kinds)) (listed (f .effects)) (namedBy (least f))) (same-eq (least f .value) v t)
       (extreme-minimum (f .settings) (kindOf (f .kinds)) (method f ok) (empty f ok) (listed (f .effects))),
 )
-holds f (maximumInRow v row) ok t = (
-  namedBy (greatest f),
-  eqb→eq (greatest f .row) row (and-left (eqb (greatest f .row) row) (same (greatest f .value) v) t),
-  subst (Maximum (f .settings) (kindOf (f .kinds)) (listed (f .effects)) (namedBy (greatest f)))
-      (same-eq (greatest f .value) v (and-right (eqb (greatest f .row) row) (same (greatest f .value) v) t))
-      (extreme-maximum (f .settings) (kindOf (f .kinds)) (method f ok) (empty f ok) (listed (f .effects))),
-)
+holds f (maximumIn v rows) ok t =
+    let m = greatest-holds f v ok (and-left (same (greatest f .value) v) (reached f v rows) t) in
+    (m, all-reached f v (m .1 .none-above) rows (and-right (same (greatest f .value) v) (reached f v rows) t))
 holds f (utilisation p n d pass) ok t =
     let u : Utilised = used f p in
     let r = and-right (eqb (u .numerator) n) (eqb (u .denominator) d && alike (u .pass) pass) t in (
@@ -139,7 +172,7 @@ each-holds (x ∷ xs) t =
     )
 
 table-checks : T (checks worked)
-unfolding checks fair known meets same alike extremeIn governingOf bestOf bestOver bestAmong bestFrom rowMaximum greatestOf leastOf lowerOf groupOf classOf factorOf lowOf plainRows floodRows iceRows openRows patternOf peakOf utilisedOf denominatorOf sum most
+unfolding checks fair known reached meets same alike extremeIn governingOf bestOf bestOver bestAmong bestFrom rowMaximum greatestOf leastOf lowerOf groupOf jointOf totalOf classOf factorOf lowOf plainRows floodRows iceRows openRows openRow patternOf peakOf utilisedOf denominatorOf sum sumℤ most
 table-checks = tt
 
 pub worked-by-hand : WorkedByHand

@@ -21,17 +21,23 @@ pub record Frame : Type 0 where
 
 pub data Claim : Type 0 where
   maximum minimum : ℤ → Claim
-  maximumInRow : ℤ → ℕ → Claim
+  maximumIn : ℤ → (rows : List ℕ) → Claim
   utilisation : Capacities → (numerator denominator : ℕ) → (pass : Bool) → Claim
 
 abbrev pub onlyN : List ℤ → ℕ → ℕ → ℤ
 onlyN effects k j = cond (eqb j 0) (listed effects k) (pos 0)
 
+-- in each of the rows some combination is the maximum
+abbrev pub MaximumIn : Frame → ℤ → List ℕ → Type 0
+MaximumIn f v [] = Unit {0}
+MaximumIn f v (row ∷ rows) =
+    ((c : Combination) × (c .row ≡ row) × Maximum (f .settings) (kindOf (f .kinds)) (listed (f .effects)) c v) × MaximumIn f v rows
+
 -- some combination reaches the number, and no admissible one is beyond it
 abbrev pub Holds : Frame → Claim → Type 0
 Holds f (maximum v) = (c : Combination) × Maximum (f .settings) (kindOf (f .kinds)) (listed (f .effects)) c v
 Holds f (minimum v) = (c : Combination) × Minimum (f .settings) (kindOf (f .kinds)) (listed (f .effects)) c v
-Holds f (maximumInRow v row) = (c : Combination) × (c .row ≡ row) × Maximum (f .settings) (kindOf (f .kinds)) (listed (f .effects)) c v
+Holds f (maximumIn v rows) = ((c : Combination) × Maximum (f .settings) (kindOf (f .kinds)) (listed (f .effects)) c v) × MaximumIn f v rows
 Holds f (utilisation p n d pass) = (c : Combination) × Utilisation (f .settings) (kindOf (f .kinds)) (onlyN (f .effects)) p c n d pass
 
 -- the kinds that the cases have
@@ -112,8 +118,8 @@ worked =
     ∷ (frame 1 0 0 (W ∷ Hv ∷ []) (p5 .effects) says maximum (pos 100000))
     ∷ (frame 1 0 1 (Fa ∷ W ∷ []) (pos 10 ∷ pos 100 ∷ []) says maximum (pos 120000))
     ∷ (frame 1 0 2 (Fa ∷ W ∷ []) (pos 10 ∷ pos 100 ∷ []) says maximum (pos 100000))
-    ∷ (frame 2 0 0 (L ∷ E ∷ S ∷ []) (pos 40 ∷ pos 20 ∷ pos 8 ∷ []) says maximumInRow (pos 46500) 28)
-    ∷ (frame 1 0 0 (F ∷ W ∷ []) (minus 30 ∷ pos 100 ∷ []) says maximumInRow (pos 100000) 7)
+    ∷ (frame 2 0 0 (L ∷ E ∷ S ∷ []) (pos 40 ∷ pos 20 ∷ pos 8 ∷ []) says maximumIn (pos 46500) (28 ∷ []))
+    ∷ (frame 1 0 0 (F ∷ W ∷ []) (minus 30 ∷ pos 100 ∷ []) says maximumIn (pos 100000) (5 ∷ 7 ∷ []))
     ∷ (frame 1 0 0 (S ∷ R ∷ []) (pos 100 ∷ pos 100 ∷ []) says maximum (pos 160000))
     -- at most one E, one W, one Fa
     ∷ (frame 1 0 0 (E ∷ E ∷ []) (pos 100 ∷ pos 100 ∷ []) says maximum (pos 100000))
@@ -122,30 +128,48 @@ worked =
     -- each Hp at the full factor or the low one, free of the others; the low one of method 2
     ∷ (frame 1 0 0 (Hp ∷ Hp ∷ []) (pos 50 ∷ minus 50 ∷ []) says maximum (pos 35000))
     ∷ (frame 2 0 0 (W ∷ Hp ∷ []) (p5 .effects) says maximum (pos 30000))
-    -- the live option leaves row 2; row 29 has no F; row 6 takes snow only
-    ∷ (frame 1 1 0 (L ∷ []) (pos 100 ∷ []) says maximumInRow (pos 160000) 2)
-    ∷ (frame 2 0 0 (F ∷ W ∷ []) (minus 30 ∷ pos 100 ∷ []) says maximumInRow (pos 60000) 29)
+    -- the live option leaves row 2; rows 7 and 29 have no F; row 6 takes snow only
+    ∷ (frame 1 1 0 (L ∷ []) (pos 100 ∷ []) says maximumIn (pos 160000) (2 ∷ []))
+    ∷ (frame 1 0 0 (D ∷ F ∷ W ∷ []) (minus 100 ∷ pos 20 ∷ pos 100 ∷ []) says maximumIn (pos 10000) (7 ∷ []))
+    ∷ (frame 2 0 0 (D ∷ F ∷ W ∷ []) (minus 100 ∷ pos 20 ∷ pos 200 ∷ []) says maximumIn (pos 60000) (29 ∷ []))
     ∷ (frame 1 0 0 (R ∷ E ∷ []) (pos 10 ∷ pos 100 ∷ []) says maximum (pos 100000))
     -- flood rows of method 2: no E beside Fa, and the factor of zone 2
     ∷ (frame 2 0 1 (E ∷ Fa ∷ []) (pos 100 ∷ pos 100 ∷ []) says maximum (pos 150000))
     ∷ (frame 2 0 2 (Fa ∷ []) (pos 100 ∷ []) says maximum (pos 75000))
     -- ice rows: none while they are off; one governs in each method; the plain rows remain, and no row has both ice and flood
     ∷ (frame 1 0 0 (Di ∷ Wi ∷ []) (pos 100 ∷ pos 100 ∷ []) says maximum (pos 0))
-    ∷ (icy (frame 1 0 0 (Di ∷ Wi ∷ []) (pos 100 ∷ pos 100 ∷ [])) says maximumInRow (pos 200000) 14)
-    ∷ (icy (frame 2 0 0 (Di ∷ Wi ∷ []) (pos 100 ∷ pos 100 ∷ [])) says maximumInRow (pos 140000) 42)
+    ∷ (icy (frame 1 0 0 (Di ∷ Wi ∷ []) (pos 100 ∷ pos 100 ∷ [])) says maximumIn (pos 200000) (14 ∷ []))
+    ∷ (icy (frame 2 0 0 (Di ∷ Wi ∷ []) (pos 100 ∷ pos 100 ∷ [])) says maximumIn (pos 140000) (42 ∷ []))
     ∷ (icy (frame 1 0 0 (W ∷ Di ∷ []) (pos 200 ∷ pos 100 ∷ [])) says maximum (pos 200000))
     ∷ (icy (frame 1 0 1 (Fa ∷ Di ∷ []) (pos 100 ∷ pos 100 ∷ [])) says maximum (pos 200000))
     -- S for the whole roof load; at most one Di, one Wi
     ∷ (icy (frame 1 0 0 (R ∷ Di ∷ []) (pos 10 ∷ pos 100 ∷ [])) says maximum (pos 100000))
-    ∷ (icy (frame 1 0 0 (S ∷ Di ∷ []) (pos 10 ∷ pos 100 ∷ [])) says maximumInRow (pos 105000) 14)
+    ∷ (icy (frame 1 0 0 (S ∷ Di ∷ []) (pos 10 ∷ pos 100 ∷ [])) says maximumIn (pos 105000) (14 ∷ []))
     ∷ (icy (frame 2 0 0 (R ∷ Di ∷ []) (pos 10 ∷ pos 100 ∷ [])) says maximum (pos 70000))
     ∷ (icy (frame 1 0 0 (Di ∷ Di ∷ []) (pos 100 ∷ pos 100 ∷ [])) says maximum (pos 100000))
     ∷ (icy (frame 1 0 0 (Wi ∷ Wi ∷ []) (pos 100 ∷ pos 100 ∷ [])) says maximum (pos 100000))
     -- the live option reaches row 14 and leaves row 13; row 41 has no Wi
-    ∷ (icy (frame 1 0 0 (L ∷ Di ∷ Wi ∷ []) (pos 100 ∷ pos 100 ∷ pos 100 ∷ [])) says maximumInRow (pos 300000) 14)
-    ∷ (icy (frame 1 1 0 (L ∷ Di ∷ Wi ∷ []) (pos 100 ∷ pos 100 ∷ pos 100 ∷ [])) says maximumInRow (pos 250000) 14)
-    ∷ (icy (frame 1 1 0 (L ∷ Di ∷ []) (pos 100 ∷ pos 10 ∷ [])) says maximumInRow (pos 162000) 13)
+    ∷ (icy (frame 1 0 0 (L ∷ Di ∷ Wi ∷ []) (pos 100 ∷ pos 100 ∷ pos 100 ∷ [])) says maximumIn (pos 300000) (14 ∷ []))
+    ∷ (icy (frame 1 1 0 (L ∷ Di ∷ Wi ∷ []) (pos 100 ∷ pos 100 ∷ pos 100 ∷ [])) says maximumIn (pos 250000) (14 ∷ []))
+    ∷ (icy (frame 1 1 0 (L ∷ Di ∷ []) (pos 100 ∷ pos 10 ∷ [])) says maximumIn (pos 162000) (13 ∷ []))
     ∷ (icy (frame 2 0 0 (L ∷ Wi ∷ []) (pos 200 ∷ pos 100 ∷ [])) says maximum (pos 200000))
+    -- the tank may be full or empty: in both methods, in flood rows and in ice rows
+    ∷ (frame 1 0 0 (E ∷ F ∷ []) (minus 100 ∷ pos 30 ∷ []) says minimum (minus 100000))
+    ∷ (frame 1 0 0 (E ∷ F ∷ []) (minus 100 ∷ pos 30 ∷ []) says maximum (pos 42000))
+    ∷ (frame 2 0 0 (F ∷ L ∷ []) (minus 30 ∷ pos 100 ∷ []) says maximumIn (pos 100000) (22 ∷ []))
+    ∷ (frame 2 0 0 (F ∷ W ∷ []) (minus 30 ∷ pos 100 ∷ []) says maximumIn (pos 60000) (25 ∷ 29 ∷ []))
+    ∷ (frame 1 0 1 (F ∷ L ∷ Fa ∷ []) (minus 30 ∷ pos 100 ∷ pos 100 ∷ []) says maximumIn (pos 300000) (9 ∷ []))
+    ∷ (frame 2 0 1 (F ∷ L ∷ Fa ∷ []) (minus 30 ∷ pos 100 ∷ pos 100 ∷ []) says maximum (pos 225000))
+    ∷ (icy (frame 1 0 0 (F ∷ L ∷ Di ∷ Wi ∷ []) (minus 30 ∷ pos 100 ∷ pos 100 ∷ pos 100 ∷ [])) says maximumIn (pos 300000) (14 ∷ []))
+    ∷ (icy (frame 2 0 0 (F ∷ S ∷ Di ∷ Wi ∷ []) (minus 30 ∷ pos 10 ∷ pos 100 ∷ pos 100 ∷ [])) says maximumIn (pos 150000) (42 ∷ []))
+    -- the F cases act all together, by the sum of all their effects
+    ∷ (frame 1 0 0 (F ∷ F ∷ []) (pos 50 ∷ minus 20 ∷ []) says maximum (pos 42000))
+    ∷ (frame 1 0 0 (F ∷ F ∷ []) (pos 50 ∷ minus 20 ∷ []) says minimum (pos 0))
+    ∷ (frame 1 0 0 (F ∷ F ∷ []) (pos 50 ∷ minus 80 ∷ []) says maximum (pos 0))
+    ∷ (frame 1 0 0 (F ∷ F ∷ []) (pos 50 ∷ minus 80 ∷ []) says minimum (minus 42000))
+    -- a utilisation with the tank empty
+    ∷ (frame 1 0 0 (E ∷ F ∷ []) (pos 100 ∷ minus 30 ∷ []) says utilisation (record { n = 100; y = 10; z = 10 }) 10000000 10000000 true)
+    ∷ (frame 1 0 0 (E ∷ F ∷ []) (pos 100 ∷ minus 30 ∷ []) says utilisation (record { n = 99; y = 10; z = 10 }) 10000000 9900000 false)
     ∷ []
 
 abbrev pub All : List Entry → Type 0

@@ -17,14 +17,14 @@ pub const LISTS: [Counted; 12] = [
     counted("03", 1, 32, 299),
     counted("02/04", 1, 8, 304),
     counted("02/04", 1, 32, 304),
-    counted("06", 1, 8, 1642),
-    counted("06", 1, 32, 2351),
-    counted("06", 2, 8, 1644),
-    counted("06", 2, 32, 2388),
-    counted("07", 1, 8, 2936),
-    counted("07", 1, 32, 4202),
-    counted("07", 2, 8, 3037),
-    counted("07", 2, 32, 4355),
+    counted("06", 1, 8, 1695),
+    counted("06", 1, 32, 2450),
+    counted("06", 2, 8, 1707),
+    counted("06", 2, 32, 2489),
+    counted("07", 1, 8, 3052),
+    counted("07", 1, 32, 4318),
+    counted("07", 2, 8, 3146),
+    counted("07", 2, 32, 4458),
 ];
 
 const fn counted(field: &'static str, method: u8, places: u8, bound: u32) -> Counted {

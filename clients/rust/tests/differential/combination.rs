@@ -156,6 +156,7 @@ pub fn contains(set: u32, place: usize) -> bool {
 /// Whether the acting cases and the low set are admissible in an open row.
 pub fn admissible(sheet: &Sheet, row: &Row, acting: u32, low: u32) -> Result<(), &'static str> {
     let mut acting_of_group = [0; ONE_OF.len()];
+    let mut fluid_acts = None;
     for (place, case) in sheet.places.iter().enumerate() {
         let (acts, at_low) = (contains(acting, place), contains(low, place));
         let Some(case) = case else {
@@ -168,8 +169,11 @@ pub fn admissible(sheet: &Sheet, row: &Row, acting: u32, low: u32) -> Result<(),
         if acts && !has_factor {
             return Err("a case without a factor in the row acts");
         }
-        if !acts && has_factor && matches!(case.kind, D | F | HP) {
-            return Err("a D, F or Hp case with a factor in the row does not act");
+        if !acts && has_factor && matches!(case.kind, D | HP) {
+            return Err("a D or Hp case with a factor in the row does not act");
+        }
+        if case.kind == F && has_factor && *fluid_acts.get_or_insert(acts) != acts {
+            return Err("some F cases act and others do not");
         }
         if at_low && !(acts && case.kind == HP) {
             return Err("the low set holds a case that is not an acting Hp");

@@ -1,6 +1,6 @@
 //! Random lists of fields, of several sorts.
 
-use crate::combination::{D, DI, WI};
+use crate::combination::{D, DI, F, WI};
 use crate::random::Random;
 use crate::reference::{LONGEST_BODY, PLACES, STATIONS};
 
@@ -116,6 +116,10 @@ fn style(random: &mut Random, sort: Sort) -> Style {
         greatest_capacity: random.pick(&[3, 20, 500, 10_000]),
         edge: 2,
     };
+    // Several F cases, which act together.
+    if random.chance(25) {
+        style.kinds.extend([F; 6]);
+    }
     match sort {
         Sort::Edge => style.edge = 50,
         Sort::Full => {

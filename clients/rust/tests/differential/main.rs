@@ -92,6 +92,7 @@ impl Run {
         let examples = [
             worked::frames(),
             worked::ice(),
+            worked::fluid(),
             worked::refusals(),
             worked::lengths(),
         ];

@@ -265,7 +265,7 @@ fn greatest(sheet: &Sheet, station: usize, weights: [i128; 3]) -> Extreme {
         .expect("some row is open")
 }
 
-/// Within a row each kind is decided apart from the others.
+/// Within a row each kind is decided apart from the others; the F cases act all together or not at all.
 fn greatest_in_row(row: &Row, low: i64, values: &[Option<(u8, i128)>; PLACES]) -> Extreme {
     let mut extreme = Extreme {
         value: 0,
@@ -276,6 +276,7 @@ fn greatest_in_row(row: &Row, low: i64, values: &[Option<(u8, i128)>; PLACES]) -
         },
     };
     let mut best_of_group = [None; ONE_OF.len()];
+    let mut fluid = (0, 0);
     for (place, (kind, value)) in filled(values) {
         let factor = row.factor(kind);
         if factor == 0 {
@@ -284,7 +285,8 @@ fn greatest_in_row(row: &Row, low: i64, values: &[Option<(u8, i128)>; PLACES]) -
         let full = i128::from(factor) * value;
         let reduced = i128::from(low) * value;
         match kind {
-            D | F => extreme.act(place, full),
+            D => extreme.act(place, full),
+            F => fluid = (fluid.0 | 1 << place, fluid.1 + full),
             HP if reduced > full => {
                 extreme.act(place, reduced);
                 extreme.combination.low |= 1 << place;
@@ -297,6 +299,11 @@ fn greatest_in_row(row: &Row, low: i64, values: &[Option<(u8, i128)>; PLACES]) -
     }
     for (place, full) in best_of_group.into_iter().flatten() {
         extreme.act(place, full);
+    }
+    let (cases, full) = fluid;
+    if full > 0 {
+        extreme.value += full;
+        extreme.combination.acting |= cases;
     }
     extreme
 }

@@ -2,6 +2,7 @@
 
 use std::time::Duration;
 
+use crate::combination::F;
 use crate::lists::Sort;
 use crate::reference::{Answer, Sheet};
 
@@ -16,6 +17,7 @@ pub struct Summary {
     pub extremes: u64,
     pub utilisations: u64,
     pub with_ice: u64,
+    pub with_fluids: u64,
     pub enumerated: u64,
     pub refusals: [u64; 15],
     pub chains: u64,
@@ -28,6 +30,9 @@ impl Summary {
     pub fn count(&mut self, sheet: &Sheet, answer: &Answer) {
         if matches!(answer, Answer::Extremes { .. } | Answer::Utilisation { .. }) {
             self.with_ice += u64::from(sheet.ice);
+            let kinds = sheet.places.iter().flatten().map(|case| case.kind);
+            let fluids = kinds.filter(|kind| *kind == F).count();
+            self.with_fluids += u64::from(fluids > 1);
         }
         match answer {
             Answer::Accepted => self.accepted += 1,
@@ -59,6 +64,7 @@ impl Summary {
         line("extremes answered (06)", self.extremes);
         line("utilisations answered (07)", self.utilisations);
         line("  of both, with ice", self.with_ice);
+        line("  of both, with several F cases", self.with_fluids);
         line("  of both, also enumerated", self.enumerated);
         for number in 1..=14 {
             line(&format!("refusal {number}"), self.refusals[number]);

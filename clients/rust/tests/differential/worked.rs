@@ -121,7 +121,7 @@ pub fn frames() -> Vec<Example> {
         extremes("P7, zone 1", cases([1, 0, 1], &P7), Maximum(120_000)),
         extremes("P7, zone 2", cases([1, 0, 2], &P7), Maximum(100_000)),
         extremes("P8", cases([2, 0, 0], &[(L, 40), (E, 20), (S, 8)]), MaximumInRow(46_500, 28)),
-        extremes("P9", cases(PLAIN, &[(F, -30), (W, 100)]), MaximumInRow(100_000, 7)),
+        extremes("P9", cases(PLAIN, &[(F, -30), (W, 100)]), Extremes(100_000, -42_000)),
         extremes("P10", cases(PLAIN, &[(S, 100), (R, 100)]), Maximum(160_000)),
         two_winds(),
     ]
@@ -161,11 +161,46 @@ pub fn ice() -> Vec<Example> {
         extremes("the live option, row 13", iced(HALF, &[(L, 200), (DI, 100)]), MaximumInRow(340_000, 13)),
         extremes("no W in an ice row", iced(PLAIN, &[(W, 100), (WI, 50)]), Extremes(100_000, 0)),
         extremes("ice apart from flood", iced([1, 0, 1], &[(FA, 100), (DI, 100)]), Extremes(200_000, 0)),
-        extremes("no F in row 15", iced(PLAIN, &[(F, -30), (WI, 100)]), MaximumInRow(100_000, 15)),
+        extremes("no F in row 15", iced(PLAIN, &[(D, -100), (F, 10), (WI, 300)]), MaximumInRow(210_000, 15)),
         extremes("08 and 01", again, Extremes(0, 0)),
         extremes("08 on and off", off, Extremes(140_000, 90_000)),
         extremes("08 with byte 2", refused, MaximumInRow(270_000, 14)),
     ]
+}
+
+// SCOPE 4.2
+#[rustfmt::skip]
+pub fn fluid() -> Vec<Example> {
+    const ALLOWABLE: [u8; 3] = [2, 0, 0];
+    let earthquake = [(E, -100), (F, 30)];
+    let above = [(F, 50), (E, -100), (F, -20)];
+    let below = [(F, -50), (W, 100), (F, 20)];
+    let none = [(F, 50), (E, -100), (F, -50)];
+    let without = [(D, -100), (F, 10), (W, 100), (FA, 100)];
+    let flood = [(F, 60), (FA, -50), (L, -30), (F, -20)];
+    let ice = [(F, -70), (DI, 100), (L, 100), (F, 30)];
+    vec![
+        extremes("an empty tank", cases(PLAIN, &earthquake), Extremes(42_000, -100_000)),
+        extremes("an empty tank, method 2", cases(ALLOWABLE, &earthquake), Extremes(30_000, -70_000)),
+        extremes("F with a sum above 0", cases(PLAIN, &above), Extremes(42_000, -100_000)),
+        extremes("F with a sum below 0", cases(PLAIN, &below), Extremes(100_000, -42_000)),
+        extremes("F with a sum of 0", cases(PLAIN, &none), Extremes(0, -100_000)),
+        extremes("no F in row 7", cases(PLAIN, &[(D, -100), (F, 10), (W, 300)]), MaximumInRow(210_000, 7)),
+        extremes("no F in row 10", cases([1, 0, 1], &without), MaximumInRow(210_000, 10)),
+        extremes("no F in row 40", cases([2, 0, 2], &without), MaximumInRow(75_000, 40)),
+        extremes("row 11 without F", cases([1, 0, 2], &flood), MinimumInRow(-80_000, 11)),
+        extremes("row 41 without F", iced(ALLOWABLE, &ice), MaximumInRow(170_000, 41)),
+        fluid_opposes(),
+    ]
+}
+
+/// F opposes E on N and adds to it on My: without F the utilisation is 1 + 0.5, with it 0.91 + 0.572 in row 8.
+fn fluid_opposes() -> Example {
+    let mut list = cases(PLAIN, &[(E, 0), (F, 0)]);
+    list.extend(field(3, &[0, 0, 0, 100, 0, 50, 0, 0]));
+    list.extend(field(3, &[1, 0, 255, 246, 0, 8, 0, 0]));
+    let expected = Utilisation(1_500_000_000, 1_000_000_000, false);
+    utilisation("F opposes", list, [100, 100, 100], expected)
 }
 
 // SCOPE 11.2

@@ -1,19 +1,16 @@
 -- `headers::right_length` meets its contract, tag by tag.
 -- Assumes nothing.
-use Prim.Native.Nat.{ℕ, _≤_, _<_}
+use Prim.Native.Nat.{_≤_}
 use mathlib.Core.Path.{_≡_, sym}
 use mathlib.Core.List.{[], _∷_}
 use mathlib.Core.Logic.{⊎-elim}
 use native.Mathlib.Omega.{arith}
 use lib.ListN.{List·getD-eq-default}
+use Rattle.integers.proofs.Tests.{past}
 use Rattle.wire.proofs.Cases.{eq-or-ne}
 use Rattle.headers.specs.Headers.{lengthOf}
 use Rattle.headers.proofs.right_length.Statement.{statement}
 use Rattle.headers.proofs.right_length.Tie as tie
-
--- at least k and not k
-past : {n : ℕ} (k : ℕ) → k ≤ n → (n ≡ k → ⊥) → k < n
-past k h f = omega arith
 
 returns : tie.Need-returns
 unfolding lengthOf

@@ -1,38 +1,71 @@
 -- Each set is gathered from the places of its kinds, among the kinds that have a factor in the row.
 -- Assumes nothing.
-use Prim.Native.Nat.{ℕ}
+use Prim.Native.Nat.{ℕ, _+_, _*_, _<_, _≤_, _^_}
+use native.Mathlib.Omega.{arith}
 use mathlib.Core.Path.{_≡_, _∙_, ap}
 use borrow.Author.Needs.{needs}
+use Rattle.integers.specs.Sums.{when}
 use Rattle.standard.specs.Columns.{kindsIn}
+use Rattle.standard.specs.Combination.{caseCount}
+use Rattle.standard.specs.Kinds.{kindCount}
 use Rattle.naming.specs.Sets.{gatheredOf, chosenOf}
+use Rattle.naming.proofs.Naming.{gathered-small}
 use Rattle.naming.proofs.chosen_in.Statement.{statement}
 use Rattle.naming.proofs.chosen_in.Tie as tie
+
+-- what is gathered of one kind is a set of cases
+one-kind : (s : tie.Start) (factored first r : ℕ) → 0 < first → first < kindCount → r ≡ gatheredOf (s .args .places .now) factored first 1 → r ≤ 2 ^ caseCount
+one-kind s factored first r h l e = omega (arith, e, gathered-small (s .args .places .now) factored first 1 (s .pre .1) h (omega arith))
+
+add-with-set : tie.Need-add-with-set
+add-with-set c =
+    let g2 = c .before in
+    let g1 = g2 .before in
+    let s = g1 .before .before .before in
+    omega (arith, one-kind s _ 1 (g1 .gathered .result) (omega arith) (omega arith) (g1 .gathered .ensures), one-kind s _ 3 (c .gathered3 .result) (omega arith) (omega arith) (c .gathered3 .ensures))
+
+with-set-requires : tie.Need-with-set-requires
+with-set-requires c κs =
+    let g2 = c .before in
+    let g1 = g2 .before in
+    let s = g1 .before .before .before in
+    omega (
+      arith,
+      one-kind s _ 1 (g1 .gathered .result) (omega arith) (omega arith) (g1 .gathered .ensures),
+      one-kind s _ 2 (g2 .gathered2 .result) (omega arith) (omega arith) (g2 .gathered2 .ensures),
+      one-kind s _ 3 (c .gathered3 .result) (omega arith) (omega arith) (c .gathered3 .ensures),
+    )
 
 returns : tie.Need-returns
 unfolding chosenOf
 returns c =
-    let g8 = c .before in
+    let g9 = c .before in
+    let g8 = g9 .before in
     let g7 = g8 .before in
     let g6 = g7 .before in
     let g5 = g6 .before in
     let g4 = g5 .before in
-    let g3 = g4 .before in
+    let w = g4 .before in
+    let g3 = w .before in
     let g2 = g3 .before in
     let g1 = g2 .before in
     let k = g1 .before in
     let s = k .before .before in
     let among : (first count : ℕ) → gatheredOf (s .args .places .now) (k .kinds-in .result) first count ≡ gatheredOf (s .args .places .now) (kindsIn (s .args .row)) first count =
     λ first count. ap (λ (f : ℕ). gatheredOf (s .args .places .now) f first count) (k .kinds-in .ensures) in
+    let one = g1 .gathered .ensures ∙ among 1 1 in
+    let two = g2 .gathered2 .ensures ∙ among 2 1 in
+    let three = g3 .gathered3 .ensures ∙ among 3 1 in
     λ i. record {
-      always = (g1 .gathered .ensures ∙ among 1 3) i;
-      earth = (g2 .gathered2 .ensures ∙ among 3 1) i;
-      free = (g3 .gathered3 .ensures ∙ among 4 2) i;
-      roof = (g4 .gathered4 .ensures ∙ among 6 3) i;
-      wind = (g5 .gathered5 .ensures ∙ among 9 1) i;
-      quake = (g6 .gathered6 .ensures ∙ among 10 1) i;
-      flood = (g7 .gathered7 .ensures ∙ among 11 1) i;
-      ice = (g8 .gathered8 .ensures ∙ among 12 1) i;
-      icewind = (c .gathered9 .ensures ∙ among 13 1) i;
+      always = (w .with-set .ensures ∙ (λ n. one n + three n + when (s .args .fluid) (two n))) i;
+      earth = three i;
+      free = (g4 .gathered4 .ensures ∙ among 4 2) i;
+      roof = (g5 .gathered5 .ensures ∙ among 6 3) i;
+      wind = (g6 .gathered6 .ensures ∙ among 9 1) i;
+      quake = (g7 .gathered7 .ensures ∙ among 10 1) i;
+      flood = (g8 .gathered8 .ensures ∙ among 11 1) i;
+      ice = (g9 .gathered9 .ensures ∙ among 12 1) i;
+      icewind = (c .gathered10 .ensures ∙ among 13 1) i;
     }
 
 pub chosen-in-spec : {M : Type 1} → statement M
@@ -42,6 +75,9 @@ chosen-in-spec =
     (λ c κs. search needs)
     (λ c κs. search needs)
     (λ c κs. search needs)
+    (λ c κs. search needs)
+    add-with-set
+    with-set-requires
     (λ c κs. search needs)
     (λ c κs. search needs)
     (λ c κs. search needs)

@@ -18,17 +18,17 @@ use Rattle.naming.proofs.with_case.Statement.{statement}
 use Rattle.naming.proofs.with_case.Tie as tie
 
 -- the fields, where the test of the definition gives t
-fields-told : (c : tie.After-with-bit2) → let m = c .before .before .args .m in let x = c .before .before .args .x in let bit = c .before .before .args .bit in
+fields-told : (c : tie.After-with-set2) → let m = c .before .before .args .m in let x = c .before .before .args .x in let bit = c .before .before .args .bit in
     (t : Bool) → ltZ (m .most) x ≡ t → (lead : ℕ) → lead ≡ cond t bit (m .lead) → (most : ℤ) → most ≡ cond t x (m .most) →
-    _≡_ {A = Marked} (record { above = c .before .with-bit .result; below = c .with-bit2 .result; lead = lead; most = most }) (markedWith m x bit)
+    _≡_ {A = Marked} (record { above = c .before .with-set .result; below = c .with-set2 .result; lead = lead; most = most }) (markedWith m x bit)
 fields-told c t test lead l most q =
     let s = c .before .before in
     let m = s .args .m in
     let x = s .args .x in
     let bit = s .args .bit in
     λ i. record {
-      above = (c .before .with-bit .ensures ∙ ap (λ (b : Bool). m .above + when b bit) (positive x (s .fits .x))) i;
-      below = (c .with-bit2 .ensures ∙ ap (λ (b : Bool). m .below + when b bit) (negative x (s .fits .x))) i;
+      above = (c .before .with-set .ensures ∙ ap (λ (b : Bool). m .above + when b bit) (positive x (s .fits .x))) i;
+      below = (c .with-set2 .ensures ∙ ap (λ (b : Bool). m .below + when b bit) (negative x (s .fits .x))) i;
       lead = (l ∙ ap (λ (b : Bool). cond b bit (m .lead)) (sym test)) i;
       most = (q ∙ ap (λ (b : Bool). cond b x (m .most)) (sym test)) i;
     }

@@ -22,6 +22,9 @@ returns-3 c = known-as (c .before .before) _ (c .enum-told3 .given .1)
 returns-4 : tie.Need-returns-4
 returns-4 c = known-as (c .before .before) _ (c .enum-told4 .given .1)
 
+returns-5 : tie.Need-returns-5
+returns-5 c = known-as (c .before .before) _ (c .enum-told5 .given .1)
+
 pub kind-outside-spec : {M : Type 1} → statement M
 kind-outside-spec =
     tie.close
@@ -31,7 +34,9 @@ kind-outside-spec =
     (λ c. search needs)
     (λ c. search needs)
     (λ c. search needs)
+    (λ c. search needs)
     returns
     returns-2
     returns-3
-    returns-4)
+    returns-4
+    returns-5)

@@ -5,13 +5,16 @@ use Prim.Native.Nat.{ℕ, _+_, _*_, _<_, _≤_, _^_}
 use native.Mathlib.Omega.{arith}
 use mathlib.Core.List.{List}
 use mathlib.Core.Path.{_≡_, refl, sym, ap, _∙_, subst}
+use lib.Dec.{ltb}
 use lib.IntN.{ℤ, negℤ, natAbs}
 use lib.ListN.{List·getD-eq-default}
+use Rattle.integers.specs.Sums.{up}
 use Rattle.integers.proofs.Machine.{back, read}
 use Rattle.integers.proofs.Signs.{abs-negated}
 use Rattle.standard.specs.Combination.{caseCount}
-use Rattle.standard.specs.Kinds.{kindCount}
+use Rattle.standard.specs.Kinds.{kindCount, fluid}
 use Rattle.standard.specs.Rows.{rowCount}
+use Rattle.optimum.specs.Row.{totalOf}
 use Rattle.envelope.specs.declared.Best.{Best}
 use Rattle.envelope.specs.declared.Extreme.{Extreme}
 use Rattle.envelope.specs.declared.Extremes.{Extremes}
@@ -21,7 +24,7 @@ use Rattle.envelope.proofs.Limits.{row-below, value-fits}
 use Rattle.sums.specs.Sums.{Summed}
 use Rattle.sums.proofs.Gathered.{summed}
 use Rattle.governing.specs.Ways.{Ready}
-use Rattle.governing.proofs.Ways.{forward-is, opposite-is, ready}
+use Rattle.governing.proofs.Ways.{forward-is, opposite-is, forward-fluid, opposite-fluid, ready}
 use Rattle.naming.proofs.BestSets.{places-in-range, chosen-in-range}
 use Rattle.station.proofs.Promised.{extremes-govern}
 use Rattle.station.proofs.Named.{sets-fit, extreme-is, negated-extreme-is}
@@ -90,26 +93,47 @@ toward-requires c κs = let r = sums-ready (c .before) in (r .sums-range, omega 
 toward-requires-2 : tie.Need-toward-requires-2
 toward-requires-2 c κs = let r = sums-ready (c .before .before .before) in (r .sums-range, omega arith, omega arith, r .back)
 
+-- whether the F cases act
+raised-is : (c : tie.After-fluid-acts) → let s = c .before .before .before .before .before .before .before .before .before .before in c .fluid-acts .result ≡ ltb 0 (up (totalOf (kind s) (effect s) fluid))
+raised-is c =
+    let m = c .before .before .before .before .before .before in
+    let s = m .before .before .before .before in
+    c .fluid-acts .ensures ∙ forward-fluid (s .args .s) (m .sums-of .result) (kind s) (effect s) (below s) (sums-are m) (effect s) (λ k. refl)
+
+lowered-is : (c : tie.After-fluid-acts2) → let s = c .before .before .before .before .before .before .before .before .before .before .before .before in c .fluid-acts2 .result ≡ ltb 0 (up (totalOf (kind s) (λ k. negℤ (effect s k)) fluid))
+lowered-is c =
+    let m = c .before .before .before .before .before .before .before .before in
+    let s = m .before .before .before .before in
+    c .fluid-acts2 .ensures ∙ opposite-fluid (s .args .s) (m .sums-of .result) (kind s) (effect s) (below s) (sums-are m) (λ k. negℤ (effect s k)) (λ k. refl)
+
+fluid-acts-requires : tie.Need-fluid-acts-requires
+fluid-acts-requires c κs = (sums-ready (c .before .before .before .before .before) .sums-range .long, omega arith, omega arith)
+
+fluid-acts-requires-2 : tie.Need-fluid-acts-requires-2
+fluid-acts-requires-2 c κs = (sums-ready (c .before .before .before .before .before .before .before) .sums-range .long, omega arith, omega arith)
+
 sets-at-requires : tie.Need-sets-at-requires
 sets-at-requires c κs =
-    let t = c .before .before .before in
+    let a = c .before .before .before in
+    let t = a .before .before .before .before in
     let p = t .before .before .before .before in
     let s = p .before .before in (
       subst (λ (b : Best). b .row < rowCount) (sym (most-is t)) (row-below (s .args .s) (kind s) (effect s)),
       places-in-range (p .places-of .result) (kind s) (p .places-of .ensures),
-      chosen-in-range (p .places-of .result) (kind s) (p .places-of .ensures) (t .toward .result .row),
+      chosen-in-range (p .places-of .result) (kind s) (p .places-of .ensures) (t .toward .result .row) (a .fluid-acts .result),
       in-range s,
       s .pre .1,
     )
 
 sets-at-requires-2 : tie.Need-sets-at-requires-2
 sets-at-requires-2 c κs =
-    let t = c .before .before .before in
+    let a = c .before .before .before in
+    let t = a .before .before .before .before in
     let p = t .before .before .before .before .before .before in
     let s = p .before .before in (
       subst (λ (b : Best). b .row < rowCount) (sym (least-is t)) (row-below (s .args .s) (kind s) (λ k. negℤ (effect s k))),
       places-in-range (p .places-of .result) (kind s) (p .places-of .ensures),
-      chosen-in-range (p .places-of .result) (kind s) (p .places-of .ensures) (t .toward2 .result .row),
+      chosen-in-range (p .places-of .result) (kind s) (p .places-of .ensures) (t .toward2 .result .row) (a .fluid-acts2 .result),
       in-range s,
       s .pre .1,
     )
@@ -125,23 +149,25 @@ least-fits c =
     subst (λ (b : Best). natAbs (b .value) < 2 ^ 63) (sym (least-is c)) (value-fits (s .args .s) (kind s) (λ k. negℤ (effect s k)) (opposed-small s))
 
 negated-requires : tie.Need-negated-requires
-negated-requires c κs = let t = c .before .before .before .before .before in rw (back (t .toward2 .result .value) (least-fits t)) (least-fits t)
+negated-requires c κs = let t = c .before .before .before .before .before .before .before .before .before in rw (back (t .toward2 .result .value) (least-fits t)) (least-fits t)
 
 extreme-requires : tie.Need-extreme-requires
 extreme-requires c κs =
     let x = c .before .before .before .before .before in
-    let t = x .before .before .before .before in
+    let a = x .before .before .before .before in
+    let t = a .before .before .before .before in
     let p = t .before .before .before .before in
     let s = p .before .before in
-    sets-fit (s .args .s) (kind s) (below s) (p .places-of .result) (p .places-of .ensures) (effect s) (t .toward .result .row) (x .sets-at .result) (x .sets-at .ensures)
+    sets-fit (s .args .s) (kind s) (below s) (p .places-of .result) (p .places-of .ensures) (effect s) (t .toward .result .row) (a .fluid-acts .result) (raised-is a) (x .sets-at .result) (x .sets-at .ensures)
 
 extreme-requires-2 : tie.Need-extreme-requires-2
 extreme-requires-2 c κs =
     let x = c .before .before .before .before in
-    let t = x .before .before .before .before in
+    let a = x .before .before .before .before in
+    let t = a .before .before .before .before in
     let p = t .before .before .before .before .before .before in
     let s = p .before .before in
-    sets-fit (s .args .s) (kind s) (below s) (p .places-of .result) (p .places-of .ensures) (λ k. negℤ (effect s k)) (t .toward2 .result .row) (x .sets-at2 .result) (x .sets-at2 .ensures)
+    sets-fit (s .args .s) (kind s) (below s) (p .places-of .result) (p .places-of .ensures) (λ k. negℤ (effect s k)) (t .toward2 .result .row) (a .fluid-acts2 .result) (lowered-is a) (x .sets-at2 .result) (x .sets-at2 .ensures)
 
 returns : tie.Need-returns
 unfolding extremesOf
@@ -150,20 +176,22 @@ returns c =
     let n = m .before .before in
     let y = n .before .before in
     let x = y .before .before in
-    let u = x .before .before in
+    let b = x .before .before in
+    let a = b .before .before in
+    let u = a .before .before in
     let t = u .before .before in
     let p = t .before .before .before .before in
     let s = p .before .before in
     let places = p .places-of .result in
     let held = p .places-of .ensures in
     let maximum : m .extreme .result ≡ extremeIn (s .args .s) (kind s) (effect s) (governingOf (s .args .s) (kind s) (effect s)) =
-    extreme-is (s .args .s) (kind s) (below s) places held (effect s) (t .toward .result .row) (x .sets-at .result) (x .sets-at .ensures) (m .extreme .result) (t .toward .result .value)
+    extreme-is (s .args .s) (kind s) (below s) places held (effect s) (t .toward .result .row) (a .fluid-acts .result) (raised-is a) (x .sets-at .result) (x .sets-at .ensures) (m .extreme .result) (t .toward .result .value)
     (m .extreme .ensures .1) (m .extreme .ensures .2) (m .extreme .ensures .3) (m .extreme .ensures .0 ∙ back (t .toward .result .value) (most-fits t))
     ∙ ap (extremeIn (s .args .s) (kind s) (effect s)) (most-is t) in
     let value : c .extreme2 .result .value ≡ negℤ (u .toward2 .result .value) =
     c .extreme2 .ensures .0 ∙ read (n .negated .result) (n .negated .ok) ∙ n .negated .ensures ∙ ap negℤ (back (u .toward2 .result .value) (least-fits u)) in
     let minimum : c .extreme2 .result ≡ negatedOf (extremeIn (s .args .s) (kind s) (λ k. negℤ (effect s k)) (governingOf (s .args .s) (kind s) (λ k. negℤ (effect s k)))) =
-    negated-extreme-is (s .args .s) (kind s) (below s) places held (λ k. negℤ (effect s k)) (u .toward2 .result .row) (y .sets-at2 .result) (y .sets-at2 .ensures) (c .extreme2 .result) (u .toward2 .result .value)
+    negated-extreme-is (s .args .s) (kind s) (below s) places held (λ k. negℤ (effect s k)) (u .toward2 .result .row) (b .fluid-acts2 .result) (lowered-is b) (y .sets-at2 .result) (y .sets-at2 .ensures) (c .extreme2 .result) (u .toward2 .result .value)
     (c .extreme2 .ensures .1) (c .extreme2 .ensures .2) (c .extreme2 .ensures .3) value
     ∙ ap (λ (b : Best). negatedOf (extremeIn (s .args .s) (kind s) (λ k. negℤ (effect s k)) b)) (least-is u) in
     let is : _≡_ {A = Extremes} (record { maximum = m .extreme .result; minimum = c .extreme2 .result }) (extremesOf (s .args .s) (kind s) (effect s)) =
@@ -181,6 +209,10 @@ extremes-of-spec =
     toward-requires
     (λ c. search needs)
     toward-requires-2
+    (λ c. search needs)
+    fluid-acts-requires
+    (λ c. search needs)
+    fluid-acts-requires-2
     (λ c. search needs)
     sets-at-requires
     (λ c. search needs)

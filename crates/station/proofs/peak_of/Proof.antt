@@ -6,17 +6,19 @@ use mathlib.Core.List.{List}
 use mathlib.Core.Path.{_≡_, refl, sym, ap, _∙_, subst}
 use lib.IntN.{ℤ, natAbs}
 use Rattle.standard.specs.Kinds.{kindCount}
+use Rattle.envelope.specs.declared.Peak.{Peak}
 use Rattle.envelope.specs.declared.Weights.{Weights}
 use Rattle.envelope.specs.Range.{effectOf, effectMost, WeightsInRange}
 use Rattle.envelope.specs.Envelope.{patternOf}
 use Rattle.envelope.proofs.Patterns.{pattern-in-range}
+use Rattle.envelope.proofs.Utilisation.{peak-inside}
 use Rattle.directions.specs.declared.Directions.{Directions}
 use Rattle.sums.specs.Sums.{SumsOf}
 use Rattle.directions.specs.Four.{directed, FourOf, DirectionsInRange}
 use Rattle.directions.proofs.FourHeld.{directed-most}
 use Rattle.sums.proofs.Gathered.{summed}
-use Rattle.governing.specs.Ways.{Ready}
-use Rattle.governing.proofs.Ways.{ready, eight-are}
+use Rattle.governing.specs.Ways.{Ready, eightOf}
+use Rattle.governing.proofs.Ways.{ready, eight-are, fluid-are}
 use Rattle.naming.proofs.BestSets.{places-in-range}
 use borrow.Author.Needs.{needs}
 use Rattle.station.proofs.peak_of.Statement.{statement}
@@ -59,9 +61,8 @@ four-sums-of-requires c κs =
       weights s (w .pattern-weights .result) (w .pattern-weights .ensures),
     )
 
-highest-requires : tie.Need-highest-requires
-highest-requires c κs =
-    let f = c .before .before .before .before .before .before .before .before in
+all-ready : (f : tie.After-four-sums-of) → let l = f .four-sums-of .last in Ready (l .0) × Ready (l .1 .0) × Ready (l .1 .1 .0) × Ready (l .1 .1 .1 .0)
+all-ready f =
     let s = f .before .before .before .before .before .before .before in
     let h = sums-are f in
     let l = f .four-sums-of .last in (
@@ -71,14 +72,35 @@ highest-requires c κs =
       sums-ready s (λ d. d .fourth) (λ d r. r .fourth) (l .1 .1 .1 .0) (h .fourth),
     )
 
-returns : tie.Need-returns
-returns c =
+highest-requires : tie.Need-highest-requires
+highest-requires c κs = all-ready (c .before .before .before .before .before .before .before .before)
+
+-- the pattern is one of the eight
+pattern-below : (c : tie.After-highest) → c .highest .result .pattern ≤ 7
+pattern-below c =
     let f = c .before .before .before .before .before .before .before .before .before in
     let s = f .before .before .before .before .before .before .before in
     let l = f .four-sums-of .last in
+    subst (λ (q : Peak). q .pattern ≤ 7) (sym (c .highest .ensures)) (peak-inside (eightOf (s .args .s) (l .0) (l .1 .0) (l .1 .1 .0) (l .1 .1 .1 .0)) 7)
+
+fluid-in-requires : tie.Need-fluid-in-requires
+fluid-in-requires c κs =
+    let h = c .before .before .before .before in
+    let r = all-ready (h .before .before .before .before .before .before .before .before .before) in
+    (r .0 .sums-range .long, r .1 .sums-range .long, r .2 .sums-range .long, r .3 .sums-range .long, omega (arith, pattern-below h))
+
+returns : tie.Need-returns
+returns c =
+    let h = c .before .before .before .before .before in
+    let f = h .before .before .before .before .before .before .before .before .before in
+    let s = f .before .before .before .before .before .before .before in
+    let l = f .four-sums-of .last in
     record {
-      is = λ kind below held. c .highest .ensures
+      is = λ kind below held. h .highest .ensures
           ∙ eight-are (s .args .s) kind (effectOf (s .args .effects .now)) (s .args .p) below (l .0) (l .1 .0) (l .1 .1 .0) (l .1 .1 .1 .0) (s .args .places .now) held (sums-are f);
+      acts = λ kind below held. c .fluid-in .ensures
+          ∙ fluid-are (s .args .s) kind (effectOf (s .args .effects .now)) (s .args .p) below (l .0) (l .1 .0) (l .1 .1 .0) (l .1 .1 .1 .0) (s .args .places .now) held (sums-are f)
+          (h .highest .result .pattern) (pattern-below h);
     }
 
 pub peak-of-spec : {M : Type 1} → statement M
@@ -96,4 +118,9 @@ peak-of-spec =
     (λ c. search needs)
     (λ c. search needs)
     highest-requires
+    (λ c. search needs)
+    (λ c. search needs)
+    (λ c. search needs)
+    (λ c. search needs)
+    fluid-in-requires
     returns)

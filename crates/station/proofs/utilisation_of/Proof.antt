@@ -4,13 +4,15 @@ use Prim.Native.Nat.{ℕ, _+_, _*_, _<_, _≤_, _^_}
 use native.Mathlib.Nat.{mul-le-mul}
 use native.Mathlib.Omega.{arith}
 use mathlib.Core.Path.{_≡_, refl, sym, ap, _∙_, subst}
-use lib.Dec.{leb}
+use lib.Dec.{leb, ltb}
 use lib.IntN.{ℤ, natAbs}
 use lib.ListN.{List·getD-eq-default}
+use Rattle.integers.specs.Sums.{up}
 use Rattle.integers.proofs.Machine.{back, read}
 use Rattle.standard.specs.Combination.{caseCount}
-use Rattle.standard.specs.Kinds.{kindCount}
+use Rattle.standard.specs.Kinds.{kindCount, fluid}
 use Rattle.standard.specs.Rows.{rowCount}
+use Rattle.optimum.specs.Row.{totalOf}
 use Rattle.envelope.specs.declared.Best.{Best}
 use Rattle.envelope.specs.declared.Extreme.{Extreme}
 use Rattle.envelope.specs.declared.Peak.{Peak}
@@ -46,28 +48,38 @@ in-range s = record { long = s .pre .0 .effects-long; range = s .pre .0 .effects
 
 -- the pattern that governs
 peak-is : (c : tie.After-peak-of) → let s = c .before .before .before .before in
-    c .peak-of .result ≡ peakOf (patternBest (s .args .s) (kind s) (effect s) (s .args .p)) 7
+    c .peak-of .result .peak ≡ peakOf (patternBest (s .args .s) (kind s) (effect s) (s .args .p)) 7
 peak-is c = let p = c .before .before in let s = p .before .before in c .peak-of .ensures .is (kind s) (below s) (p .places-of .ensures)
 
 -- its row governs the effects weighed by it
-best-is : (c : tie.After-pattern-weights) → let q = c .before .before in let s = q .before .before .before .before in
-    q .peak-of .result .best ≡ governingOf (s .args .s) (kind s) (weighed (c .pattern-weights .result) (effect s))
+best-is : (c : tie.After-pattern-weights) → let q = c .before .before .before in let s = q .before .before .before .before in
+    q .peak-of .result .peak .best ≡ governingOf (s .args .s) (kind s) (weighed (c .pattern-weights .result) (effect s))
 best-is c =
-    let q = c .before .before in
+    let q = c .before .before .before in
     let s = q .before .before .before .before in
     let b = patternBest (s .args .s) (kind s) (effect s) (s .args .p) in
     ap (λ (x : Peak). x .best) (peak-is q) ∙ peak-own b 7 ∙ ap (λ (x : Peak). b (x .pattern)) (sym (peak-is q))
     ∙ ap (λ (w : Weights). governingOf (s .args .s) (kind s) (weighed w (effect s))) (sym (c .pattern-weights .ensures))
 
+-- whether the F cases act
+acts-is : (c : tie.After-pattern-weights) → let q = c .before .before .before in let s = q .before .before .before .before in
+    q .peak-of .result .fluid ≡ ltb 0 (up (totalOf (kind s) (weighed (c .pattern-weights .result) (effect s)) fluid))
+acts-is c =
+    let q = c .before .before .before in
+    let p = q .before .before in
+    let s = p .before .before in
+    q .peak-of .ensures .acts (kind s) (below s) (p .places-of .ensures)
+    ∙ ap (λ (w : Weights). ltb 0 (up (totalOf (kind s) (weighed w (effect s)) fluid))) (sym (c .pattern-weights .ensures))
+
 weights : (c : tie.After-pattern-weights) → WeightsInRange (c .pattern-weights .result)
 weights c =
-    let q = c .before .before in
+    let q = c .before .before .before in
     let s = q .before .before .before .before in
-    subst WeightsInRange (sym (c .pattern-weights .ensures)) (pattern-in-range (s .args .p) (q .peak-of .result .pattern) (s .pre .1))
+    subst WeightsInRange (sym (c .pattern-weights .ensures)) (pattern-in-range (s .args .p) (q .peak-of .result .peak .pattern) (s .pre .1))
 
-value-small : (c : tie.After-pattern-weights) → natAbs (c .before .before .peak-of .result .best .value) < 2 ^ 63
+value-small : (c : tie.After-pattern-weights) → natAbs (c .before .before .before .peak-of .result .peak .best .value) < 2 ^ 63
 value-small c =
-    let s = c .before .before .before .before .before .before in
+    let s = c .before .before .before .before .before .before .before in
     subst (λ (b : Best). natAbs (b .value) < 2 ^ 63) (sym (best-is c))
     (value-fits (s .args .s) (kind s) (weighed (c .pattern-weights .result) (effect s))
     (weighed-most (s .args .effects .now) (c .pattern-weights .result) (in-range s) (weights c)))
@@ -84,12 +96,12 @@ peak-of-requires c κs =
 sets-by-requires : tie.Need-sets-by-requires
 sets-by-requires c κs =
     let w = c .before in
-    let q = w .before .before in
+    let q = w .before .before .before in
     let p = q .before .before in
     let s = p .before .before in (
       subst (λ (b : Best). b .row < rowCount) (sym (best-is w)) (row-below (s .args .s) (kind s) (weighed (w .pattern-weights .result) (effect s))),
       places-in-range (p .places-of .result) (kind s) (p .places-of .ensures),
-      chosen-in-range (p .places-of .result) (kind s) (p .places-of .ensures) (q .peak-of .result .best .row),
+      chosen-in-range (p .places-of .result) (kind s) (p .places-of .ensures) (q .peak-of .result .peak .best .row) (q .peak-of .result .fluid),
       in-range s,
       weights w,
     )
@@ -98,15 +110,15 @@ extreme-requires : tie.Need-extreme-requires
 extreme-requires c κs =
     let x = c .before in
     let w = x .before .before in
-    let q = w .before .before in
+    let q = w .before .before .before in
     let p = q .before .before in
     let s = p .before .before in
-    sets-fit (s .args .s) (kind s) (below s) (p .places-of .result) (p .places-of .ensures) (weighed (w .pattern-weights .result) (effect s)) (q .peak-of .result .best .row) (x .sets-by .result) (x .sets-by .ensures)
+    sets-fit (s .args .s) (kind s) (below s) (p .places-of .result) (p .places-of .ensures) (weighed (w .pattern-weights .result) (effect s)) (q .peak-of .result .peak .best .row) (q .peak-of .result .fluid) (acts-is w) (x .sets-by .result) (x .sets-by .ensures)
 
-value-is : (c : tie.After-extreme) → c .extreme .result .value ≡ c .before .before .before .before .before .before .peak-of .result .best .value
+value-is : (c : tie.After-extreme) → c .extreme .result .value ≡ c .before .before .before .before .before .before .before .peak-of .result .peak .best .value
 value-is c =
     let w = c .before .before .before .before in
-    c .extreme .ensures .0 ∙ back (w .before .before .peak-of .result .best .value) (value-small w)
+    c .extreme .ensures .0 ∙ back (w .before .before .before .peak-of .result .peak .best .value) (value-small w)
 
 extreme-small : (c : tie.After-extreme) → natAbs (c .extreme .result .value) < 2 ^ 63
 extreme-small c = subst (λ (v : ℤ). natAbs v < 2 ^ 63) (sym (value-is c)) (value-small (c .before .before .before .before))
@@ -123,15 +135,15 @@ returns c =
     let x = m .before .before in
     let y = x .before .before in
     let w = y .before .before in
-    let q = w .before .before in
+    let q = w .before .before .before in
     let p = q .before .before in
     let s = p .before .before in
     let f : Peak → Extreme = λ z. extremeIn (s .args .s) (kind s) (weighed (patternOf (s .args .p) (z .pattern)) (effect s)) (z .best) in
     let peak = peakOf (patternBest (s .args .s) (kind s) (effect s) (s .args .p)) 7 in
     let is : x .extreme .result ≡ f peak =
-    extreme-is (s .args .s) (kind s) (below s) (p .places-of .result) (p .places-of .ensures) (weighed (w .pattern-weights .result) (effect s)) (q .peak-of .result .best .row) (y .sets-by .result) (y .sets-by .ensures)
-    (x .extreme .result) (q .peak-of .result .best .value) (x .extreme .ensures .1) (x .extreme .ensures .2) (x .extreme .ensures .3) (value-is x)
-    ∙ ap (λ (v : Weights). extremeIn (s .args .s) (kind s) (weighed v (effect s)) (q .peak-of .result .best)) (w .pattern-weights .ensures)
+    extreme-is (s .args .s) (kind s) (below s) (p .places-of .result) (p .places-of .ensures) (weighed (w .pattern-weights .result) (effect s)) (q .peak-of .result .peak .best .row) (q .peak-of .result .fluid) (acts-is w) (y .sets-by .result) (y .sets-by .ensures)
+    (x .extreme .result) (q .peak-of .result .peak .best .value) (x .extreme .ensures .1) (x .extreme .ensures .2) (x .extreme .ensures .3) (value-is x)
+    ∙ ap (λ (v : Weights). extremeIn (s .args .s) (kind s) (weighed v (effect s)) (q .peak-of .result .peak .best)) (w .pattern-weights .ensures)
     ∙ ap f (peak-is q) in
     let n : m .magnitude .result ≡ natAbs (f peak .value) =
     m .magnitude .ensures ∙ ap natAbs (back (x .extreme .result .value) (extreme-small x) ∙ ap (λ (z : Extreme). z .value) is) in

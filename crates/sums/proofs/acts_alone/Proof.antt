@@ -23,6 +23,9 @@ returns-3 c = alone-of (c .before .before) _ (c .enum-told3 .given .1)
 returns-4 : tie.Need-returns-4
 returns-4 c = alone-of (c .before .before) _ (c .enum-told4 .given .1)
 
+returns-5 : tie.Need-returns-5
+returns-5 c = alone-of (c .before .before) _ (c .enum-told5 .given .1)
+
 pub acts-alone-spec : {M : Type 1} → statement M
 acts-alone-spec =
     tie.close
@@ -32,7 +35,9 @@ acts-alone-spec =
     (λ c. search needs)
     (λ c. search needs)
     (λ c. search needs)
+    (λ c. search needs)
     returns
     returns-2
     returns-3
-    returns-4)
+    returns-4
+    returns-5)

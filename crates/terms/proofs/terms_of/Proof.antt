@@ -29,21 +29,26 @@ above r n e = e ∙ ap pos (sym (ap up e))
 
 added-requires : tie.Need-added-requires
 added-requires c κs =
-    let s = c .before .before .before .before .before in
+    let s = c .before .before .before .before .before .before in
     rw (back (c .before .held .ok) (c .before .held .ensures), back (c .held2 .ok) (c .held2 .ensures))
     (omega (arith, held-most s 3 (s .args .over) (omega arith) (omega arith) (s .pre .1), held-most s 4 (s .args .over) (omega arith) (omega arith) (s .pre .1)))
 
 negated-requires : tie.Need-negated-requires
 negated-requires c κs =
-    let s = c .before .before .before .before .before .before .before in
+    let s = c .before .before .before .before .before .before .before .before in
     rw (back (c .held3 .ok) (c .held3 .ensures)) (omega (arith, held-most s 3 (s .args .under) (omega arith) (omega arith) (s .pre .2)))
 
 greater-requires : tie.Need-greater-requires
 greater-requires c κs = above _ _ (back (c .before .held5 .ok) (c .before .held5 .ensures))
 
+held-requires-11 : tie.Need-held-requires-11
+held-requires-11 c κs =
+    let s = c .before .before .before .before .before .before .before .before .before .before .before .before .before .before .before .before .before in
+    (s .pre .0, omega arith, omega arith, s .pre .1)
+
 held-requires-12 : tie.Need-held-requires-12
 held-requires-12 c κs =
-    let s = c .before .before .before .before .before .before .before .before .before .before .before .before .before .before .before .before .before in
+    let s = c .before .before .before .before .before .before .before .before .before .before .before .before .before .before .before .before .before .before in
     (s .pre .0, omega arith, omega arith, s .pre .1)
 
 returns : tie.Need-returns
@@ -63,11 +68,12 @@ returns c =
     let d = h3 .before in
     let h2 = d .before in
     let h1 = h2 .before in
-    let e2 = h1 .before in
+    let a2 = h1 .before in
+    let e2 = a2 .before in
     let e1 = e2 .before in
     λ i. record {
       dead = back (e1 .excess .ok) (e1 .excess .ensures) i;
-      fluid = back (e2 .excess2 .ok) (e2 .excess2 .ensures) i;
+      fluid = back (a2 .above-zero .ok) (a2 .above-zero .ensures ∙ ap (λ (z : ℤ). pos (up z)) (back (e2 .excess2 .ok) (e2 .excess2 .ensures))) i;
       earth = back (d .added .ok) (d .added .ensures ∙ (λ k. back (h1 .held .ok) (h1 .held .ensures) k +ℤ back (h2 .held2 .ok) (h2 .held2 .ensures) k)) i;
       lowered = back (n .negated .ok) (n .negated .ensures ∙ ap negℤ (back (h3 .held3 .ok) (h3 .held3 .ensures))) i;
       live = back (h4 .held4 .ok) (h4 .held4 .ensures) i;
@@ -88,6 +94,7 @@ terms-of-spec =
     (λ c κs. search needs)
     (λ c κs. search needs)
     (λ c κs. search needs)
+    (λ c κs. search needs)
     added-requires
     (λ c κs. search needs)
     negated-requires
@@ -99,6 +106,6 @@ terms-of-spec =
     (λ c κs. search needs)
     (λ c κs. search needs)
     (λ c κs. search needs)
-    (λ c κs. search needs)
+    held-requires-11
     held-requires-12
     returns)

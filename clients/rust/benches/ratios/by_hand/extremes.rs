@@ -100,7 +100,7 @@ impl Direction {
     fn terms(&self) -> Terms {
         Terms {
             dead: self.dead,
-            fluid: self.fluid,
+            fluid: self.fluid.max(0),
             earth: self.permanent.above + self.other.above,
             earth_low: self.permanent.below,
             live: self.live.above,
@@ -120,8 +120,9 @@ impl Direction {
         let f = &ROWS[row];
         let with = |factor: i64, set: u32| if factor == 0 { 0 } else { set };
         let one = |factor: i64, greatest: Ranked| with(factor, greatest.case());
+        let full = if self.fluid > 0 { places[F] } else { 0 };
         let acting = places[D]
-            | with(f.fluid, places[F])
+            | with(f.fluid, full)
             | with(f.earth, places[HP] | self.other.cases_above)
             | with(f.live, self.live.cases_above)
             | one(f.roof, self.roof.up.max(self.snow.up))

@@ -104,7 +104,8 @@ const fn ice(mut row: Factors, snow: i64, ice: i64, wind_on_ice: i64) -> Factors
     row
 }
 
-/// What the greatest factored effect of a row is worked out from: of the kinds that may be left out, what is above 0.
+/// What the greatest factored effect of a row is worked out from: of the kinds that may be left out, what is above 0. F may be left out
+/// as a whole.
 #[derive(Clone, Copy)]
 pub struct Terms {
     pub dead: i64,

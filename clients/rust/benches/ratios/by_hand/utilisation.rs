@@ -56,7 +56,8 @@ impl Station<'_> {
     #[inline(always)]
     fn governing(&self) -> (usize, Governing) {
         let p = self.places;
-        let (dead, fluid) = (self.total(p[D]), self.total(p[F]));
+        let dead = self.total(p[D]);
+        let fluid = self.total(p[F]).map(|sum| sum.max(0));
         let (permanent, other) = (self.above(p[HP]), self.above(p[HV]));
         let live = self.above(p[L]);
         let (roof, snow) = (self.greatest(p[LR] | p[R]), self.greatest(p[S]));
@@ -152,10 +153,12 @@ impl Station<'_> {
         let (p, f) = (self.places, &ROWS[row]);
         let with = |factor: i64, set: u32| if factor == 0 { 0 } else { set };
         let one = |set: u32| greatest(set, effect);
+        let sum: i64 = cases(p[F]).map(effect).sum();
+        let full = if sum > 0 { p[F] } else { 0 };
         let permanent = with(f.earth, p[HP]);
         let free = with(f.earth, p[HV]) | with(f.live, p[L]);
         let acting = p[D]
-            | with(f.fluid, p[F])
+            | with(f.fluid, full)
             | permanent
             | above(free, effect)
             | one(with(f.roof, p[LR] | p[R]) | with(f.roof + f.snow, p[S]))
