@@ -345,6 +345,41 @@ def fluid():
     return b
 
 
+PAIR_SETTINGS = [(1, 1, 1, 1), (2, 0, 2, 1)]
+
+
+def every_kind(setting, values, cap):
+    """The fields of a sheet with KINDS, and their effects and the capacities at station 6."""
+    me, li, zo, ice = setting
+    out = [f(1, me, li, zo)] + [f(8, 1)] * ice + [f(2, c, k) for c, k in enumerate(KINDS)]
+    return out + [f(3, c, 6, effects(*v)) for c, v in enumerate(values)] + [f(5, 6, caps(*cap))]
+
+
+def turned_by_edits_and_afresh(fields, looks):
+    """A sheet with its looks; then with the sign of every effect turned, by edits and as a fresh sheet. SCOPE 4.7 holds of the answers."""
+    turned = m.turned(fields)
+    b = b''.join(fields + looks + [x for x in turned if x[0] == 3] + looks + turned + looks)
+    answers = [a for _, a in run(b)[1] if a[0] in (0x86, 0x87)]
+    n = len(looks)
+    for first, edited, fresh in zip(answers[:n], answers[n:2 * n], answers[2 * n:]):
+        assert edited == fresh and (m.is_pair(first, fresh) if first[0] == 0x86 else first[3:20] == fresh[3:20])
+    return b
+
+
+def pair():
+    """Point 10: sheets worked by hand, then a case of each kind (some twice), each with the sign of every effect turned."""
+    b = b''
+    for cases, how, *want in m.PAIRS_WORKED:
+        one = turned_by_edits_and_afresh(m.sheet(cases, **how), [f(6, 0, 0)])
+        got = [struct.unpack('>q9xq9x', a[3:]) for _, a in run(one)[1] if a[0] == 0x86]
+        assert got == [want[0], want[1], want[1]], (cases, got)
+        b += one
+    looks = [f(6, 6, k) for k in range(3)] + [f(7, 6)]
+    b += b''.join(turned_by_edits_and_afresh(every_kind(s, v, c), looks) for s, (_, v, c) in zip(PAIR_SETTINGS, STATIONS))
+    due(b, [])
+    return b
+
+
 def long_fields():
     """Whole fields of the greatest length: an unknown tag, a known one; the sheet stays."""
     look = f(6, 0, 0) + f(7, 0)
@@ -356,14 +391,14 @@ def long_fields():
 
 POINTS = {'1_worked_exchange_p2': lambda: P2_IN, '2_each_refusal': refusals, '3_refusal_orders': orders, '4_p1_to_p10': frames_by_hand,
           '5_methods_zones_live_options': every_setting, '6_groups': groups, '7_long_fields': long_fields,
-          '8_ice': ice, '9_fluid': fluid}
+          '8_ice': ice, '9_fluid': fluid, '10_pair': pair}
 BUFFER = 65536  # what `frames` reads in one turn, at most
 
 
 def stored():
     """The stored input and output: the points, the refusals first, on the sheet that the service starts with. The last field gets a 3
     at once; what follows its header is not answered."""
-    order = sorted(POINTS, key=lambda k: (k[0] != '2', k))
+    order = sorted(POINTS, key=lambda k: not k.startswith('2_'))
     whole = b''.join(POINTS[k]() for k in order) + f(1, bytes(60001)) + P2_IN
     out, steps = run(whole)
     assert steps[-1][1] == h('81000103') and len(whole) > 2 * BUFFER

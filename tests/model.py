@@ -131,6 +131,13 @@ class Sheet:
         hi = max(b[0] for b in best)
         return rng.choice([b for b in best if b[0] == hi]), 1000 * nc * yc * zc
 
+    def turned(self):
+        """The sheet with the sign of every effect turned, SCOPE 4.7."""
+        s = Sheet(self.method, self.live, self.zone)
+        s.ice, s.kind, s.cap = self.ice, dict(self.kind), dict(self.cap)
+        s.effect = {k: tuple(-x for x in v) for k, v in self.effect.items()}
+        return s
+
     def saved(self):
         """The saved form, SCOPE 8.1."""
         out = [f(1, self.method, self.live, self.zone)] + [f(8, 1)] * self.ice
@@ -207,6 +214,18 @@ def effects(*v):
 
 def caps(*v):
     return struct.pack('>3H', *v)
+
+
+def turned(fields):
+    """The fields with the sign of every effect turned; each effect is within its limits."""
+    return [b[:5] + effects(*(-x for x in struct.unpack('>3h', b[5:]))) if b[0] == 3 else b for b in fields]
+
+
+def is_pair(a, b):
+    """SCOPE 4.7 on two answers to a 06, the second with every effect turned: numbers alone, for the combinations named are free."""
+    hi, _, _, _, lo, _, _, _ = struct.unpack('>qBIIqBII', a[3:])
+    high, _, _, _, low, _, _, _ = struct.unpack('>qBIIqBII', b[3:])
+    return (high, low) == (-lo, -hi)
 
 
 def sheet(cases, method=1, live=0, zone=0, ice=0):
@@ -318,6 +337,21 @@ FLUID_ROWS = [
      [({0: 100, 1: -40, 2: 100, 3: 100}, 310000, 31), ({4: 100, 5: 100}, 445000, 33)]),
     (dict(method=2, zone=2), -1, [D, F, W, FA, L, LR],
      [({0: 100, 1: -40, 2: 100, 3: 100}, 235000, 36), ({4: 100, 5: 100}, 370000, 38)]),
+]
+
+# Pairs worked by hand: cases, settings, maximum and minimum, and the same two with the sign of every effect turned.
+PAIRS_WORKED = [
+    ([(D, 100), (L, 50), (W, -200), (W, 80)], dict(), (250000, -110000), (110000, -250000)),
+    ([(W, 100), (HP, -50)], dict(), (55000, -80000), (80000, -55000)),
+    ([(E, -100), (F, 30)], dict(), (42000, -100000), (100000, -42000)),
+    ([(E, -100), (F, 30)], dict(method=2), (30000, -70000), (70000, -30000)),
+    ([(FA, 10), (W, 100)], dict(zone=1), (120000, 0), (0, -120000)),
+    ([(L, 40), (E, 20), (S, 8)], dict(method=2), (46500, 0), (0, -46500)),
+    ([(D, 100), (WI, -300)], dict(ice=1), (140000, -210000), (210000, -140000)),
+    # equal cases, of which any may be named
+    ([(S, 100), (R, 100), (W, -70), (W, -70)], dict(), (160000, -70000), (70000, -160000)),
+    # effects at their limits
+    ([(D, 10000), (W, -10000)], dict(), (14000000, -1000000), (1000000, -14000000)),
 ]
 
 
@@ -529,10 +563,11 @@ def ice_switch():
 
 def fields_of(b):
     """The whole fields in these bytes."""
-    out = []
-    while b:
-        n = 3 + (b[1] << 8 | b[2])
-        out, b = out + [b[:n]], b[n:]
+    out, at = [], 0
+    while at < len(b):
+        end = at + 3 + (b[at + 1] << 8 | b[at + 2])
+        out.append(b[at:end])
+        at = end
     return out
 
 

@@ -1,4 +1,4 @@
-//! The frames worked by hand (SCOPE 11.1), every refusal, what a sheet holds, and saving.
+//! The frames worked by hand (SCOPE 11.1), the pair of extremes (SCOPE 4.7), every refusal, what a sheet holds, and saving.
 
 use frames::bytes::{answer, run, ANSWER, SAVED};
 use frames::{
@@ -207,6 +207,88 @@ fn ice_is_switched_and_saved() {
     assert_eq!(fresh, Sheet::default());
     s.set_ice(false);
     assert_eq!(s, without);
+}
+
+/// Two cases of each kind, with effects of both signs at stations 0, 7 and 15, which have capacities.
+fn every_kind(settings: Settings, ice: bool) -> Sheet {
+    let mut fields = vec![Field::Start(settings), Field::SetIce { on: ice }];
+    let kinds = (0..26).zip(Kind::ALL.iter().cycle());
+    fields.extend(kinds.map(|(case, &kind)| Field::AddCase { case, kind }));
+    for (case, station) in (0..26).flat_map(|case| [0, 7, 15].map(|station| (case, station))) {
+        let effect = |step| (i16::from(case) * step + i16::from(station)) % 201 - 100;
+        let effects = Effects {
+            n: effect(37),
+            my: effect(59),
+            mz: effect(83) * 100,
+        };
+        fields.push(Field::SetEffects {
+            case,
+            station,
+            effects,
+        });
+    }
+    fields.extend([0, 7, 15].map(|station| Field::SetCapacities {
+        station,
+        capacities: Capacities {
+            n: 900,
+            my: 700,
+            mz: 10_000,
+        },
+    }));
+    made(&fields)
+}
+
+/// The sheet that these fields make, each of which is accepted.
+fn made(fields: &[Field]) -> Sheet {
+    let mut sheet = Sheet::default();
+    let answers = sheet.run(fields);
+    assert!(answers.iter().all(|a| *a == Answer::Accepted));
+    sheet
+}
+
+/// The sheet with the sign of every effect turned.
+fn turned(sheet: &Sheet) -> Sheet {
+    let mut fields: Vec<Field> = sheet.fields().collect();
+    for field in &mut fields {
+        if let Field::SetEffects { effects, .. } = field {
+            let Effects { n, my, mz } = *effects;
+            *effects = Effects {
+                n: -n,
+                my: -my,
+                mz: -mz,
+            };
+        }
+    }
+    made(&fields)
+}
+
+// SCOPE 4.7
+#[test]
+fn every_effect_turned() {
+    let settings = every_start().flat_map(|field| [false, true].map(|ice| (field, ice)));
+    for (field, ice) in settings {
+        let Field::Start(settings) = field else {
+            panic!("{field:?} has no settings")
+        };
+        let first = every_kind(settings, ice);
+        let second = turned(&first);
+        assert_ne!(first, second);
+        assert_eq!(first, turned(&second));
+        let stations = [0, 1, 7, 15].into_iter();
+        stations.for_each(|station| turned_at(&first, &second, station));
+    }
+}
+
+/// Compares a station of two sheets that differ in the sign of every effect.
+fn turned_at(first: &Sheet, second: &Sheet, station: u8) {
+    for &component in Component::ALL {
+        let x = first.extremes(station, component).unwrap();
+        let y = second.extremes(station, component).unwrap();
+        assert_eq!(y.maximum.value, -x.minimum.value);
+        assert_eq!(y.minimum.value, -x.maximum.value);
+    }
+    let ratio = |sheet: &Sheet| sheet.utilisation(station).map(|u| (u.numerator, u.pass));
+    assert_eq!(ratio(first), ratio(second));
 }
 
 #[test]

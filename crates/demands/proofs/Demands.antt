@@ -1,23 +1,20 @@
 -- The three demands hold after any list of readings.
 -- Assumes nothing.
-use Prim.Native.Nat.{ℕ, zero, suc, _≤_, _<_}
+use Prim.Native.Nat.{ℕ, _≤_, _<_}
 use mathlib.Core.Path.{_≡_, refl, sym, ap, _∙_, subst}
 use mathlib.Core.List.{List, [], _∷_}
-use mathlib.Core.Logic.{_⊎_, inl, inr, ⊎-elim}
 use native.Mathlib.Omega.{arith}
 use borrow.Author.Tests.{le-ltb, ne-eqb}
-use lib.ListN.{length, take, List·getD-eq-default}
+use lib.ListN.{length, take}
 use Rattle.wire.specs.Bytes.{over}
-use Rattle.wire.proofs.Cases.{eq-or-ne}
 use Rattle.sheet.specs.declared.Sheet.{Sheet}
 use Rattle.sheet.specs.declared.Answer.the-variants as answer
 use Rattle.sheet.specs.declared.Answered.{Answered}
 use Rattle.standard.proofs.EmptyTank.{empty-tank-considered}
-use Rattle.sheet.specs.Sheet.{freshSheet, kindAt, effectAt, capacityAt}
-use Rattle.sheet.specs.Looks.{stationEffects, capacitiesAt, extremesAt, utilisationAt, lookedExtremes, lookedUtilisation}
+use Rattle.sheet.specs.Sheet.{freshSheet, kindAt, capacityAt}
+use Rattle.sheet.specs.Looks.{extremesAt, utilisationAt}
 use Rattle.refusals.specs.Refusals.{dueExtremes, dueUtilisationAt}
 use Rattle.sheet.specs.Range.{InRange}
-use Rattle.sheet.proofs.Kept.{fresh-kept}
 use Rattle.sheet.proofs.Access.{long, same-sheet}
 use Rattle.sheet.proofs.Promised.{extremes-govern-at, utilisation-governs-at}
 use Rattle.fields.specs.declared.Reading.{Reading}
@@ -25,7 +22,6 @@ use Rattle.headers.specs.Headers.{lengthOf, dueHeader}
 use Rattle.fields.specs.Field.{readField}
 use Rattle.tags.specs.Run.{runOf}
 use Rattle.fields.specs.Order.{fieldOf, reading}
-use Rattle.fields.proofs.Kept.{read-kept}
 use Rattle.fields.proofs.Refused.{refused-unchanged}
 use Rattle.fields.proofs.Within.{within}
 use Rattle.saving.specs.declared.Saved.the-variants.{Written}
@@ -64,19 +60,19 @@ module _ (w : Sheet) (h : InRange w) where
       let out : m .out′ ≡ over (answerBytes (a .answer)) (m .out) = f .output ∙ ap (λ (x : Reading). over (answerBytes (x .answer)) (m .out)) r in
       (λ i. decoded (take (long i) (out i))) ∙ ap decoded (take-over (answerBytes (a .answer)) (m .out)) ∙ decoded-answer (a .answer) fits
 
+  pub look-answered : (t j : ℕ) → t < 16 → j < 3 → (m : Made) (rest : List ℕ) → answerRoom ≤ length (m .out) → m .input ≡ lookExtremes t j rest → ReadOn w m →
+      (m .result .answer ≡ answer.Extremes (extremesAt w t j)) × (reported m ≡ answer.Extremes (extremesAt w t j))
+  look-answered t j a b m rest room i f =
+      let two : 2 < 256 = omega arith in
+      let r = f .reading ∙ ap (λ (x : List ℕ). readField x (length (m .out)) w) i ∙ front-read 6 (t ∷ j ∷ []) rest (length (m .out)) w room two (extremes-field t j a b) in
+      (ap (λ (y : Reading). y .answer) r, reported-is m f r (extremes-fit w t h a j))
+
   extremes-answered : (t j : ℕ) → t < 16 → j < 3 → (m : Made) (rest : List ℕ) → answerRoom ≤ length (m .out) → m .input ≡ lookExtremes t j rest →
       ReadOn w m → ExtremesAnswered w t j m
   extremes-answered t j a b m rest room i f =
-      let two : 2 < 256 = omega arith in
-      let r = f .reading ∙ ap (λ (x : List ℕ). readField x (length (m .out)) w) i ∙ front-read 6 (t ∷ j ∷ []) rest (length (m .out)) w room two (extremes-field t j a b) in
+      let r = look-answered t j a b m rest room i f in
       let g = extremes-govern-at w h t j a b in
-      record {
-        extremes = extremesAt w t j;
-        answered = ap (λ (y : Reading). y .answer) r;
-        bytes = reported-is m f r (extremes-fit w t h a j);
-        maximum = g .maximum;
-        minimum = g .minimum;
-      }
+      record { extremes = extremesAt w t j; answered = r .0; bytes = r .1; maximum = g .maximum; minimum = g .minimum }
 
   utilisation-answered : (t : ℕ) → t < 16 → 0 < capacityAt w t 0 → (m : Made) (rest : List ℕ) → answerRoom ≤ length (m .out) →
       m .input ≡ lookUtilisation t rest → ReadOn w m → UtilisationAnswered w t m

@@ -1,5 +1,5 @@
 -- The rows that govern by the sums: the effects as they are or negated, and the eight patterns of signs.
-use Prim.Native.Nat.{ℕ}
+use Prim.Native.Nat.{ℕ, _<_}
 use mathlib.Core.List.{List}
 use lib.IntN.{pos}
 use Rattle.standard.specs.declared.Settings.{Settings}
@@ -13,11 +13,10 @@ use Rattle.envelope.specs.Envelope.{bestAt, bestOf}
 abbrev pub towardOf : Settings → List ℕ → (over under : ℕ) → Best
 towardOf s sums over under = bestOf s (λ row. valueOf s row (termsOf sums over under))
 
--- the sums are in range, and so are the terms of both ways
+-- the sums are in range, and so are their terms, both ways
 pub record Ready (sums : List ℕ) : Type 0 where
   pub sums-range : SumsInRange sums
-  pub forth : TermsInRange (termsOf sums 0 1)
-  pub back : TermsInRange (termsOf sums 1 0)
+  pub terms-range : (over under : ℕ) → over < 2 → under < 2 → TermsInRange (termsOf sums over under)
 
 -- the row that governs a pattern of signs
 abbrev pub eightOf : Settings → (s0 s1 s2 s3 : List ℕ) → ℕ → Best

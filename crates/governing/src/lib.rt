@@ -1,10 +1,9 @@
 ghost use mathlib.Core.Path.{_≡_};
-ghost use Prim.Native.Nat.{ℕ, _<_};
+ghost use Prim.Native.Nat.{_<_};
 ghost use Rattle.standard.specs.Rows.{rowCount, rowsTo, byZone, byIce};
 ghost use Rattle.standard.specs.Columns.{rowTable};
 ghost use Rattle.envelope.specs.Envelope.{bestAt, betterBy, bestFrom, bestAmong, bestOf, higherBy, peakOf};
-ghost use Rattle.sums.specs.Sums.{SumsInRange};
-ghost use Rattle.terms.specs.Value.{termsOf, TermsInRange, valueOf};
+ghost use Rattle.terms.specs.Value.{TermsInRange, valueOf};
 ghost use Rattle.governing.specs.Ways.{towardOf, Ready, eightOf};
 use envelope::Best;
 use envelope::Peak;
@@ -157,7 +156,7 @@ fn governing(s: Settings, t: Terms) -> Best
 
 // The row that governs the effects, at 0 over 1, or the effects negated, at 1 over 0.
 pub fn toward(s: Settings, sums: &[u64], over: usize, under: usize) -> Best
-    requires { ⌜ SumsInRange (now sums) × (over < 2) × (under < 2) × TermsInRange (termsOf (now sums) over under) ⌝ }
+    requires { ⌜ Ready (now sums) × (over < 2) × (under < 2) ⌝ }
     ensures { λ r. ⌜ r ≡ towardOf s (now (sums .entry)) over under ⌝ }
 {
     governing(s, terms::terms_of(sums, over, under))

@@ -21,8 +21,8 @@ use Rattle.standard.specs.Columns.{kindsIn}
 use Rattle.standard.specs.Combination.{caseCount}
 use Rattle.standard.proofs.Facts.{kind-in, sharedFactor, shared-factor}
 use Rattle.standard.proofs.Table.{tabulate, same-at}
-use Rattle.optimum.specs.Row.{groupBy, isTogether, groupOf, totalOf, worthOf, actsIn, lowIn}
-use Rattle.envelope.specs.Places.{Places, PlacesInRange}
+use Rattle.optimum.specs.Row.{groupBy, isTogether, groupOf, actsTogether, worthOf, actsIn, lowIn}
+use Rattle.envelope.specs.Places.{Places}
 use Rattle.naming.specs.Sets.{leadBit, gatheredOf, chosenOf, ChosenInRange, namedOf}
 use Rattle.integers.proofs.Folds.{mask-same, when-sum, inRun, sum-run, most-multiple, mostAt-multiple, ltb-times}
 use Rattle.naming.proofs.Acting.{isAlways, isSubset, factored, acting-is}
@@ -145,9 +145,6 @@ module _ (places : List ℕ) (kind : ℕ → ℕ) (held : Places places kind) wh
         icewind = gathered-below (kindsIn row) 13 1 (omega arith) (omega arith);
       }
 
-  pub places-in-range : PlacesInRange places
-  places-in-range = record { long = held .long; each = λ j h l. omega (arith, held .each j h l, mask-below caseCount (λ k. eqb (kind k) j)) }
-
   module _ (below : (k : ℕ) → kind k < kindCount) (s : Settings) (row : ℕ) where
     -- where the kinds that pass a test are a run: its cases are those whose kind passes the test and has a factor
     module _ (test : ℕ → Bool) (first count : ℕ) (h : 0 < first) (l : first + count ≤ kindCount)
@@ -203,20 +200,20 @@ module _ (places : List ℕ) (kind : ℕ → ℕ) (held : Places places kind) wh
           ∙ (λ i. sym (run-passing isDead 1 1 (omega arith) (omega arith) (runs .dead)) i + sym (run-passing (λ j. eqb j permanentEarth) 3 1 (omega arith) (omega arith) (runs .earth)) i)
 
       -- those that act together: F, by the total of its effects
-      joint-are : maskOf caseCount (λ k. (isTogether (classOf (kind k)) && factored s row kind k) && ltb 0 (up (totalOf kind x (kind k))))
-          ≡ when (ltb 0 (up (totalOf kind x fluid))) (gatheredOf places (kindsIn row) fluid 1)
+      joint-are : maskOf caseCount (λ k. (isTogether (classOf (kind k)) && factored s row kind k) && actsTogether kind x (kind k))
+          ≡ when (actsTogether kind x fluid) (gatheredOf places (kindsIn row) fluid 1)
       unfolding maskOf
       joint-are =
-          let all : Bool = ltb 0 (up (totalOf kind x fluid)) in
+          let all : Bool = actsTogether kind x fluid in
           let own : ℕ → Bool = λ k. isTogether (classOf (kind k)) && factored s row kind k in
-          sum-same caseCount (λ k. when (own k && ltb 0 (up (totalOf kind x (kind k)))) (2 ^ k)) (λ k. when all (when (own k) (2 ^ k)))
-          (λ k l. one-test (isTogether (classOf (kind k))) (factored s row kind k) (ltb 0 (up (totalOf kind x (kind k)))) all (2 ^ k)
-          (λ t. ap (λ (j : ℕ). ltb 0 (up (totalOf kind x j)))
+          sum-same caseCount (λ k. when (own k && actsTogether kind x (kind k)) (2 ^ k)) (λ k. when all (when (own k) (2 ^ k)))
+          (λ k l. one-test (isTogether (classOf (kind k))) (factored s row kind k) (actsTogether kind x (kind k)) all (2 ^ k)
+          (λ t. ap (actsTogether kind x)
           (eqb→eq (kind k) fluid (subst (λ (b : Bool). T b) (same-at (λ j. isTogether (classOf j)) (λ j. eqb j fluid) 0 kindCount (kind k) (runs .fluid) (omega arith) (omega (arith, below k))) t))))
           ∙ sym (when-sum all caseCount (λ k. when (own k) (2 ^ k)))
           ∙ ap (λ (y : ℕ). when all y) (sym (run-passing (λ j. isTogether (classOf j)) fluid 1 (omega arith) (omega arith) (runs .joint)))
 
-      pub named-acting : (joint : Bool) → joint ≡ ltb 0 (up (totalOf kind x fluid)) → namedOf (chosenOf row places joint) x .acting ≡ maskOf caseCount (actsIn s row kind x)
+      pub named-acting : (joint : Bool) → joint ≡ actsTogether kind x fluid → namedOf (chosenOf row places joint) x .acting ≡ maskOf caseCount (actsIn s row kind x)
       unfolding namedOf chosenOf
       named-acting joint e =
           omega (

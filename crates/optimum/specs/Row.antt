@@ -70,6 +70,10 @@ jointOf s row kind = when (isTogether (classOf kind)) (factorOf s row kind)
 unfoldable pub totalOf : (ℕ → ℕ) → (ℕ → ℤ) → ℕ → ℤ
 totalOf kind e j = sumℤ caseCount (λ k. pos (when (eqb (kind k) j) 1) *ℤ e k)
 
+-- whether the cases of kind j, if they act all together or not at all, do: where their total is above zero
+abbrev pub actsTogether : (ℕ → ℕ) → (ℕ → ℤ) → ℕ → Bool
+actsTogether kind e j = ltb 0 (up (totalOf kind e j))
+
 -- what the kinds whose cases act together add: their total where it is above zero, else nothing
 abbrev pub jointGain : Settings → ℕ → (ℕ → ℕ) → (ℕ → ℤ) → ℕ
 jointGain s row kind e = sum kindCount (λ j. jointOf s row j * up (totalOf kind e j))
@@ -97,7 +101,7 @@ actsBy Unknown positive first joint = false
 unfoldable pub actsIn : Settings → ℕ → (ℕ → ℕ) → (ℕ → ℤ) → ℕ → Bool
 actsIn s row kind e k =
     ltb 0 (factorOf s row (kind k))
-    && actsBy (classOf (kind k)) (ltb 0 (up (e k))) (eqb (leaderOf s row kind e (groupOf (kind k))) k) (ltb 0 (up (totalOf kind e (kind k))))
+    && actsBy (classOf (kind k)) (ltb 0 (up (e k))) (eqb (leaderOf s row kind e (groupOf (kind k))) k) (actsTogether kind e (kind k))
 
 -- an Hp case whose effect is negative takes the low factor
 unfoldable pub lowIn : Settings → ℕ → (ℕ → ℕ) → (ℕ → ℤ) → ℕ → Bool

@@ -1,5 +1,6 @@
 // Runs the library's reader over the stored fields on standard input, has each answer checked by the second checker (crate
-// recheck_answers) and the library's other calls compared with it, and writes a summary.
+// recheck_answers), the library's other calls compared with it and its extremes with those of the sheet with signs turned, and
+// writes a summary.
 use recheck_answers::check_answer;
 use recheck_answers::sheet_after;
 use recheck_bytes::UNWRITTEN;
@@ -7,6 +8,9 @@ use recheck_bytes::filled_from;
 use recheck_bytes::same_at;
 use recheck_methods::method_agrees;
 use recheck_methods::saved_agrees;
+use recheck_pairs::has_extremes;
+use recheck_pairs::pair_agrees;
+use recheck_pairs::turned;
 use recheck_readings::fresh_sheet;
 use recheck_readings::read_short;
 use recheck_readings::read_whole;
@@ -108,6 +112,21 @@ fn calls_agree(
     forms_agree(sheet, next, field, answer, &state[0..n], &own[0..m])
 }
 
+// The law of the pair: asked of the sheet with the sign of every effect turned, the library gives each extreme as minus the other
+// one of this answer. An answer without extremes has no pair.
+fn pair_holds(w: WorkingSheet, field: &[u8], answer: &[u8]) -> bool {
+    if !has_extremes(field, answer) {
+        return true;
+    }
+    let opposite = saved_form(turned(w));
+    let state = opposite.bytes;
+    let n = opposite.count;
+    let mut out = [UNWRITTEN; 64];
+    let r = frames_c::frames_answer(&state[0..n], field, &mut out);
+    let answered = (r.refusal == 0) & (r.written == 37) & has_extremes(field, &out);
+    answered & pair_agrees(answer, &out)
+}
+
 // Whether the answer stands at its place in those of one list. The list ends with its first refusal 3.
 fn list_agrees(list: &[u8], at: usize, answer: &[u8]) -> bool
     requires { ⌜ length (now list) < 1000000 ⌝ }
@@ -138,13 +157,15 @@ fn checked(
     let after = sheet_after(working, field);
     let calls = calls_agree(working, after, sheet, next, field, answer);
     let listed = list_agrees(list, run.listed, answer);
-    let ok = j.ok & calls & listed & clean;
+    let pair = pair_holds(working, field, answer);
+    let ok = j.ok & calls & listed & pair & clean;
+    let paired = has_extremes(field, answer);
     Run {
         sheet: next,
         working: after,
         start: end,
         listed: wrapping_add_usize(run.listed, answer.len()),
-        tally: with_reading(t, ok, j.looked, j.skipped, j.refused),
+        tally: with_reading(t, ok, j.looked, j.skipped, paired, j.refused),
     }
 }
 
@@ -224,6 +245,7 @@ fn first_run() -> Run
         readings: 0,
         looks: 0,
         large: 0,
+        pairs: 0,
         refused: 0,
         short: 0,
         differences: 0,

@@ -1,19 +1,17 @@
 -- The sets that are named for a row are those of its best combination, and of 32 cases.
 -- Assumes nothing.
-use Prim.Native.Nat.{ℕ, _<_, _≤_, _^_}
+use Prim.Native.Nat.{ℕ, _<_, _^_}
 use native.Mathlib.Omega.{arith}
 use mathlib.Core.Bool.{Bool}
 use mathlib.Core.List.{List}
 use mathlib.Core.Path.{_≡_, ap, _∙_}
-use lib.Dec.{ltb}
 use lib.IntN.{ℤ, negℤ}
-use Rattle.integers.specs.Sums.{maskOf, up}
+use Rattle.integers.specs.Sums.{maskOf}
 use Rattle.integers.proofs.Masks.{mask-below}
 use Rattle.standard.specs.declared.Settings.{Settings}
 use Rattle.standard.specs.Kinds.{kindCount, fluid}
 use Rattle.standard.specs.Combination.{caseCount}
-use Rattle.optimum.specs.Row.{totalOf, actsIn, lowIn}
-use Rattle.envelope.specs.declared.Best.{Best}
+use Rattle.optimum.specs.Row.{actsTogether, actsIn, lowIn}
 use Rattle.envelope.specs.declared.Extreme.{Extreme}
 use Rattle.envelope.specs.Envelope.{extremeIn, negatedOf}
 use Rattle.envelope.specs.Places.{Places}
@@ -22,7 +20,7 @@ use Rattle.naming.specs.Sets.{chosenOf, namedOf}
 use Rattle.naming.proofs.BestSets.{named-acting, named-low}
 
 module _ (s : Settings) (kind : ℕ → ℕ) (below : (k : ℕ) → kind k < kindCount) (places : List ℕ) (held : Places places kind)
-    (x : ℕ → ℤ) (row : ℕ) (joint : Bool) (acts : joint ≡ ltb 0 (up (totalOf kind x fluid))) (sets : Sets) (named : sets ≡ namedOf (chosenOf row places joint) x) where
+    (x : ℕ → ℤ) (row : ℕ) (joint : Bool) (acts : joint ≡ actsTogether kind x fluid) (sets : Sets) (named : sets ≡ namedOf (chosenOf row places joint) x) where
   acting-is : sets .acting ≡ maskOf caseCount (actsIn s row kind x)
   acting-is = ap (λ (y : Sets). y .acting) named ∙ named-acting places kind held below s row x joint acts
 

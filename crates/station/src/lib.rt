@@ -2,15 +2,14 @@ ghost use mathlib.Core.Path.{_≡_};
 ghost use Prim.Native.Nat.{_<_, _^_};
 ghost use Rattle.standard.specs.Combination.{caseCount, denominatorOf};
 ghost use Rattle.envelope.specs.Range.{kindOf, effectOf, StationInRange, EffectsInRange, CapacitiesInRange};
-ghost use Rattle.envelope.specs.Envelope.{extremesOf, signedBy, patternOf, utilisedOf};
-ghost use Rattle.station.specs.Promises.{KnownMethod, ExtremesGovern, UtilisationGoverns};
+ghost use Rattle.envelope.specs.Envelope.{extremesOf, utilisedOf};
+ghost use Rattle.station.specs.Promises.{KnownMethod, ExtremesGovern, ExtremesFromPass, UtilisationGoverns, UtilisationFromPass};
 ghost use Rattle.envelope.specs.Places.{Placed};
 ghost use Rattle.station.specs.Peaks.{PeakOf};
 use envelope::Extreme;
 use envelope::Extremes;
 use envelope::Peak;
 use envelope::Utilised;
-use envelope::Weights;
 use naming::Sets;
 use standard::Capacities;
 use standard::Settings;
@@ -39,10 +38,10 @@ fn extreme(value: i64, row: usize, sets: Sets) -> Extreme
 // The maximum and the minimum of a component, from one pass over the cases.
 pub fn extremes_of(s: Settings, kinds: &[u8], effects: &[i16], component: usize) -> Extremes
     requires { ⌜ StationInRange (now kinds) (now effects) × (component < 3) ⌝ }
-    ensures { λ r. ⌜ (r ≡ extremesOf s (kindOf (now (kinds .entry))) (λ k. effectOf (now (effects .entry)) k component)) × (KnownMethod s → ExtremesGovern s (kindOf (now (kinds .entry))) (λ k. effectOf (now (effects .entry)) k component) r) ⌝ }
+    ensures { λ r. ⌜ (r ≡ extremesOf s (kindOf (now (kinds .entry))) (λ k. effectOf (now (effects .entry)) k component)) × (KnownMethod s → ExtremesGovern s (kindOf (now (kinds .entry))) (λ k. effectOf (now (effects .entry)) k component) r) × ExtremesFromPass s (kindOf (now (kinds .entry))) (λ k. effectOf (now (effects .entry)) k component) r ⌝ }
 {
     let places = sums::places_of(kinds);
-    let sums = sums::sums_of(&places, effects, component);
+    let sums = passes::component_pass(&places, effects, component);
     let most = governing::toward(s, &sums, 0, 1);
     let least = governing::toward(s, &sums, 1, 0);
     let raised = sums::fluid_acts(&sums, 0, 1);
@@ -56,29 +55,6 @@ pub fn extremes_of(s: Settings, kinds: &[u8], effects: &[i16], component: usize)
     }
 }
 
-// A weight, with a minus sign or without.
-fn signed_by(minus: bool, x: u64) -> i64
-    requires { ⌜ x < 2 ^ 63 ⌝ }
-    ensures { λ r. ⌜ r ≡ signedBy minus x ⌝ }
-{
-    let w = integers::signed(x);
-    if minus { integers::negated(w) } else { w }
-}
-
-// The weights of the numerator for a pattern of signs.
-fn pattern_weights(p: Capacities, pattern: usize) -> Weights
-    ensures { λ r. ⌜ r ≡ patternOf p pattern ⌝ }
-{
-    let n = p.n as u64;
-    let y = p.y as u64;
-    let z = p.z as u64;
-    Weights {
-        n: signed_by(pattern % 2 == 1, y * z),
-        y: signed_by(pattern / 2 % 2 == 1, n * z),
-        z: signed_by(pattern / 4 % 2 == 1, n * y),
-    }
-}
-
 // The pattern of signs with the greatest numerator, and whether the F cases act in it, from one pass over the cases.
 fn peak_of(s: Settings, places: &[u64], effects: &[i16], p: Capacities) -> Found
     requires { ⌜ Placed (now places) × EffectsInRange (now effects) × CapacitiesInRange p ⌝ }
@@ -88,8 +64,7 @@ fn peak_of(s: Settings, places: &[u64], effects: &[i16], p: Capacities) -> Found
     let mut s1 = [0u64; sums::SUMS];
     let mut s2 = [0u64; sums::SUMS];
     let mut s3 = [0u64; sums::SUMS];
-    let w = pattern_weights(p, 0);
-    directions::four_sums_of(&mut s0, &mut s1, &mut s2, &mut s3, places, effects, w);
+    passes::pattern_pass(&mut s0, &mut s1, &mut s2, &mut s3, places, effects, p);
     let peak = governing::highest(s, &s0, &s1, &s2, &s3);
     let fluid = directions::fluid_in(&s0, &s1, &s2, &s3, peak.pattern);
     Found { peak, fluid }
@@ -107,13 +82,13 @@ fn denominator_of(p: Capacities) -> u64
 // The utilisation of a station.
 pub fn utilisation_of(s: Settings, kinds: &[u8], effects: &[i16], p: Capacities) -> Utilised
     requires { ⌜ StationInRange (now kinds) (now effects) × CapacitiesInRange p ⌝ }
-    ensures { λ r. ⌜ (r ≡ utilisedOf s (kindOf (now (kinds .entry))) (effectOf (now (effects .entry))) p) × (KnownMethod s → UtilisationGoverns s (kindOf (now (kinds .entry))) (effectOf (now (effects .entry))) p r) ⌝ }
+    ensures { λ r. ⌜ (r ≡ utilisedOf s (kindOf (now (kinds .entry))) (effectOf (now (effects .entry))) p) × (KnownMethod s → UtilisationGoverns s (kindOf (now (kinds .entry))) (effectOf (now (effects .entry))) p r) × UtilisationFromPass s (kindOf (now (kinds .entry))) (effectOf (now (effects .entry))) p r ⌝ }
 {
     let places = sums::places_of(kinds);
     let found = peak_of(s, &places, effects, p);
     let q = found.peak;
     let best = q.best;
-    let w = pattern_weights(p, q.pattern);
+    let w = passes::pattern_weights(p, q.pattern);
     let sets = naming::sets_by(best.row, &places, effects, w, found.fluid);
     let x = extreme(best.value, best.row, sets);
     let numerator = integers::magnitude(x.value);

@@ -5,7 +5,7 @@ use native.Mathlib.Decide.{ℕ-discrete}
 use native.Mathlib.Nat.{pow-suc}
 use native.Mathlib.Numerals.{add-one}
 use native.Mathlib.Omega.{arith}
-use mathlib.Core.Bool.{Bool, true, false, cond}
+use mathlib.Core.Bool.{Bool, cond}
 use mathlib.Core.List.{List}
 use mathlib.Core.Path.{_≡_, refl, sym, ap, _∙_, subst}
 use borrow.Author.Tests.{eq-eqb, ne-eqb}
@@ -14,7 +14,7 @@ use lib.IntN.{ℤ, pos, natAbs}
 use lib.ListN.{length, getD, set, replicate, length-set}
 use lib.Pow.{pow-lt}
 use lib.Seq.{getD-set-same, getD-set-other}
-use Rattle.integers.specs.Sums.{when, sum, most, maskOf, up, down}
+use Rattle.integers.specs.Sums.{when, sum, maskOf, up, down}
 use Rattle.integers.specs.Sets.{has}
 use Rattle.integers.proofs.Masks.{bit-in-mask, mask-below}
 use Rattle.integers.proofs.Signs.{neg-down}
@@ -70,6 +70,9 @@ summed sums places kind e q h = record { long = h .long; held = λ j t p l m. h 
         among (has (getD places j 0)) (λ i. partOf t (e i)) k ≡ among (λ i. eqb (kind i) j) (λ i. partOf t (e i)) k
     member j t p l k b =
         ap (λ (v : Bool). when v (partOf t (e k))) (ap (λ (m : ℕ). has m k) (q .each j p l) ∙ bit-in-mask caseCount (λ i. eqb (kind i) j) k b)
+
+pub places-in-range : (places : List ℕ) (kind : ℕ → ℕ) → Places places kind → PlacesInRange places
+places-in-range places kind q = record { long = q .long; each = λ j p l. omega (arith, q .each j p l, mask-below caseCount (λ k. eqb (kind k) j)) }
 
 pub sums-in-range : (sums : List ℕ) (kind : ℕ → ℕ) (e : ℕ → ℤ) → Summed sums kind e → ((k : ℕ) → natAbs (e k) ≤ effectMost) → SumsInRange sums
 sums-in-range sums kind e h small =

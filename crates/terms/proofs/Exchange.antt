@@ -1,6 +1,6 @@
 -- A row's value from the terms is its maximum over the cases, for the effects and for the effects negated; and the terms are in range.
 -- Assumes nothing.
-use Prim.Native.Nat.{ℕ, zero, suc, _+_, _*_, _<_, _≤_, max}
+use Prim.Native.Nat.{ℕ, zero, suc, _+_, _*_, _<_, _≤_}
 use native.Mathlib.Nat.{mul-le-mul-left, le-antisymm, le-trans}
 use native.Mathlib.Omega.{arith}
 use mathlib.Core.Path.{_≡_, refl, sym, ap, _∙_, subst}
@@ -18,7 +18,7 @@ use Rattle.standard.specs.declared.Class.the-variants.{Always, Together, Subset
 use Rattle.standard.specs.Kinds.{classOf, kindCount, groupCount, fluid}
 use Rattle.standard.specs.Rows.{factorOf}
 use Rattle.standard.specs.Combination.{caseCount}
-use Rattle.optimum.specs.Row.{greatestBy, leastBy, groupBy, isTogether, lowerOf, greatestOf, leastOf, groupOf, jointOf, totalOf, gainOf, rowMaximum, worthOf}
+use Rattle.optimum.specs.Row.{greatestBy, leastBy, groupBy, isTogether, lowerOf, greatestOf, leastOf, groupOf, jointOf, totalOf, actsTogether, gainOf, rowMaximum, worthOf}
 use Rattle.envelope.specs.Range.{effectMost}
 use Rattle.sums.specs.Sums.{partOf, ofKind, alone, heldBy, heldOf, heldAt, fluidActs, Summed}
 use Rattle.terms.specs.Value.{termsBy, termsOf, TermsInRange, valueOf}
@@ -174,7 +174,7 @@ module _ (kind : ℕ → ℕ) (e : ℕ → ℤ) (below : (k : ℕ) → kind k < 
       counted j part = sum-same caseCount (ofKind kind part j) (λ k. when (eqb (kind k) j) 1 * part k)
           (λ k _. eqb-cases (kind k) j (λ t. when t (part k) ≡ when t 1 * part k) (λ _. omega arith) (λ _. omega arith))
 
-  fluid-held : ltb (d fluid) (u fluid) ≡ ltb 0 (up (totalOf kind e fluid))
+  fluid-held : ltb (d fluid) (u fluid) ≡ actsTogether kind e fluid
   unfolding classOf
   fluid-held = less-excess (u fluid) (d fluid) ∙ ap (λ (z : ℤ). ltb 0 (up z)) (total-held fluid (omega arith) (omega arith) refl)
 
@@ -229,10 +229,10 @@ module _ (sums : List ℕ) (kind : ℕ → ℕ) (e : ℕ → ℤ) (below : (k : 
   negated-value-is s row =
       held-value kind (λ k. negℤ (e k)) below (λ j. heldAt sums j 1) (λ j. heldAt sums j 0) turned-up turned-down s row
 
-  pub fluid-is : fluidActs sums 0 1 ≡ ltb 0 (up (totalOf kind e fluid))
+  pub fluid-is : fluidActs sums 0 1 ≡ actsTogether kind e fluid
   fluid-is = fluid-held kind e below (λ j. heldAt sums j 0) (λ j. heldAt sums j 1) (holds 0 (omega arith)) (holds 1 (omega arith))
 
-  pub negated-fluid-is : fluidActs sums 1 0 ≡ ltb 0 (up (totalOf kind (λ k. negℤ (e k)) fluid))
+  pub negated-fluid-is : fluidActs sums 1 0 ≡ actsTogether kind (λ k. negℤ (e k)) fluid
   negated-fluid-is = fluid-held kind (λ k. negℤ (e k)) below (λ j. heldAt sums j 1) (λ j. heldAt sums j 0) turned-up turned-down
 
 -- ---- the sizes of the terms

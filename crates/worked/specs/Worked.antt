@@ -1,4 +1,4 @@
--- SCOPE 11.1: frames P1 to P10, at one station with N only, as one table; after them
+-- SCOPE 11.1 and 11.3: frames P1 to P10 and the pairs with every sign turned, at one station with N only, as one table; between them
 -- further frames, each for a sentence of SCOPE 3 or 4 that none of these tries.
 use Prim.Native.Nat.{ℕ}
 use mathlib.Core.Bool.{Bool, true, false, cond}
@@ -170,6 +170,13 @@ worked =
     -- a utilisation with the tank empty
     ∷ (frame 1 0 0 (E ∷ F ∷ []) (pos 100 ∷ minus 30 ∷ []) says utilisation (record { n = 100; y = 10; z = 10 }) 10000000 10000000 true)
     ∷ (frame 1 0 0 (E ∷ F ∷ []) (pos 100 ∷ minus 30 ∷ []) says utilisation (record { n = 99; y = 10; z = 10 }) 10000000 9900000 false)
+    -- P2, P5 and E -100, F 30 with the sign of every effect turned
+    ∷ (frame 1 0 0 (p2 .kinds) (minus 100 ∷ minus 50 ∷ pos 200 ∷ minus 80 ∷ []) says maximum (pos 110000))
+    ∷ (frame 1 0 0 (p2 .kinds) (minus 100 ∷ minus 50 ∷ pos 200 ∷ minus 80 ∷ []) says minimum (minus 250000))
+    ∷ (frame 1 0 0 (p5 .kinds) (minus 100 ∷ pos 50 ∷ []) says maximum (pos 80000))
+    ∷ (frame 1 0 0 (p5 .kinds) (minus 100 ∷ pos 50 ∷ []) says minimum (minus 55000))
+    ∷ (frame 1 0 0 (E ∷ F ∷ []) (pos 100 ∷ minus 30 ∷ []) says maximum (pos 100000))
+    ∷ (frame 1 0 0 (E ∷ F ∷ []) (pos 100 ∷ minus 30 ∷ []) says minimum (minus 42000))
     ∷ []
 
 abbrev pub All : List Entry → Type 0

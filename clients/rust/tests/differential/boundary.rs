@@ -4,8 +4,9 @@ use frames::raw::{frames_answer, frames_count, frames_run, Ran};
 
 use crate::compare;
 use crate::lists::field;
+use crate::pair;
 use crate::random::Random;
-use crate::reference::{self, fields, Sheet, LONGEST_ANSWER, SAVED_ROOM};
+use crate::reference::{self, fields, Sheet, LONGEST_ANSWER, SAVED_ROOM, STATIONS};
 use crate::shrink::hexadecimal;
 
 type Check = Result<(), String>;
@@ -219,6 +220,41 @@ pub fn check_chain(input: &[u8], seed: u64) -> Check {
     require(state == whole.saved_to[..whole.saved], || {
         "a chain of runs ends in a different state from one run".into()
     })
+}
+
+/// The list and the one with the sign of every effect turned, each on a fresh sheet; returns how many pairs of extremes there were.
+pub fn check_turned_list(list: &[u8]) -> Result<u64, String> {
+    let turned = answers(&pair::turned_list(list));
+    pair::check(fields(list).len(), &answers(list), &turned)
+}
+
+/// The sheet after the list as a state, and the sheet with the sign of every effect turned, with looks at every station; returns how
+/// many pairs of extremes there were.
+pub fn check_turned_state(list: &[u8]) -> Result<u64, String> {
+    let mut sheet = Sheet::fresh();
+    reference::read_list(&mut sheet, list, |_, _, _| {});
+    let states = [&sheet, &pair::turned(&sheet)].map(reference::save);
+    let input = pair::turned_list(list);
+    let called = call_run(&[], &input, output_length(&input), SAVED_ROOM);
+    require(called.saved_to[..called.saved] == states[1], || {
+        "the sheet saved after the turned list is not the turned sheet".into()
+    })?;
+    let looks = every_look();
+    let [first, second] = states.map(|state| {
+        let called = call_answer(&state, &looks, output_length(&looks));
+        called.output[..called.written].to_vec()
+    });
+    pair::check(fields(&looks).len(), &first, &second)
+        .map_err(|reason| format!("looks at the state after the list: {reason}"))
+}
+
+/// Tag 06 for each component and tag 07, at each station; without capacities tag 07 is refused.
+fn every_look() -> Vec<u8> {
+    let at = |station: u8| {
+        let extremes = [0, 1, 2].map(|component| field(6, &[station, component]));
+        [extremes.concat(), field(7, &[station])].concat()
+    };
+    (0..STATIONS as u8).flat_map(at).collect()
 }
 
 /// Good states that the list makes: the saved sheet, and the list's accepted edits.

@@ -105,7 +105,7 @@ fn named(bytes: &[u8]) -> Combination {
     }
 }
 
-fn long(bytes: &[u8]) -> i128 {
+pub fn long(bytes: &[u8]) -> i128 {
     let bytes = bytes.try_into().expect("eight bytes");
     i128::from(i64::from_be_bytes(bytes))
 }

@@ -7,6 +7,7 @@ mod combination;
 mod compare;
 mod enumerate;
 mod lists;
+mod pair;
 mod pipe;
 mod random;
 mod reference;
@@ -93,6 +94,7 @@ impl Run {
             worked::frames(),
             worked::ice(),
             worked::fluid(),
+            worked::turned(),
             worked::refusals(),
             worked::lengths(),
         ];
@@ -176,6 +178,20 @@ impl Run {
             self.check_boundary("lengths of buffers", list, &check);
             self.summary.refusals[14] += refused.get();
         }
+        self.check_pairs(list, index);
+    }
+
+    /// The sign of every effect turned: in the list, and for a share of the lists in a state too.
+    fn check_pairs(&mut self, list: &[u8], index: u64) {
+        let pairs = Cell::new(0);
+        let check = |list: &[u8]| boundary::check_turned_list(list).map(|n| pairs.set(n));
+        self.check_boundary("a list with every effect turned", list, &check);
+        self.summary.pairs_of_lists += pairs.take();
+        if index % 3 == 0 {
+            let check = |list: &[u8]| boundary::check_turned_state(list).map(|n| pairs.set(n));
+            self.check_boundary("a state with every effect turned", list, &check);
+            self.summary.pairs_of_states += pairs.get();
+        }
     }
 
     fn check_boundary(
@@ -198,17 +214,32 @@ impl Run {
         if batch.is_empty() {
             return;
         }
-        let input = batch.input();
         self.summary.processes += 1;
-        self.summary.fields_of_program += reference::fields(&input).len() as u64;
+        self.summary.fields_of_program += reference::fields(&batch.input()).len() as u64;
         let seed = self.seed.wrapping_add(self.summary.processes);
         let program = self.program.clone();
         let check = |list: &[u8]| program.check(list, seed);
+        self.check_process("the program", &batch, seed, &check);
+        let pairs = Cell::new(0);
+        let check = |list: &[u8]| program.check_turned(list, seed).map(|n| pairs.set(n));
+        self.check_process("the program, every effect turned", &batch, seed, &check);
+        self.summary.pairs_of_program += pairs.get();
+    }
+
+    fn check_process(
+        &mut self,
+        name: &str,
+        batch: &Batch,
+        seed: u64,
+        check: &dyn Fn(&[u8]) -> Result<(), String>,
+    ) {
+        let program = self.program.clone();
         let subject = Subject {
-            name: "the program",
-            check: &check,
+            name,
+            check,
             answers: &|list| program.answers(list, seed).unwrap_or_default(),
         };
+        let input = batch.input();
         let result = check(&input);
         if result.is_ok() {
             return;

@@ -6,6 +6,7 @@ use std::process::{Child, ChildStdin, Command, Stdio};
 use std::thread;
 
 use crate::compare;
+use crate::pair;
 use crate::random::Random;
 use crate::reference::{fields, first_field, load, Sheet};
 
@@ -53,6 +54,14 @@ impl Program {
     pub fn check(&self, input: &[u8], seed: u64) -> Result<(), String> {
         let output = self.answers(input, seed)?;
         compare::list(&mut Sheet::fresh(), input, &output)
+    }
+
+    /// A list and the one with the sign of every effect turned, each in a process of its own; returns how many pairs of extremes
+    /// there were.
+    pub fn check_turned(&self, input: &[u8], seed: u64) -> Result<u64, String> {
+        let output = self.answers(input, seed)?;
+        let turned = self.answers(&pair::turned_list(input), seed)?;
+        pair::check(fields(input).len(), &output, &turned)
     }
 }
 

@@ -22,6 +22,9 @@ pub struct Summary {
     pub refusals: [u64; 15],
     pub chains: u64,
     pub refused_states: u64,
+    pub pairs_of_lists: u64,
+    pub pairs_of_states: u64,
+    pub pairs_of_program: u64,
     pub differences: u64,
 }
 
@@ -71,6 +74,9 @@ impl Summary {
         }
         line("chains of saved states", self.chains);
         line("states refused", self.refused_states);
+        line("pairs of extremes, by lists", self.pairs_of_lists);
+        line("  by saved states", self.pairs_of_states);
+        line("  through the program", self.pairs_of_program);
         line("seed", seed);
         println!("{:<36}{:>12.1}", "seconds", time.as_secs_f64());
         println!("{} differences", self.differences);

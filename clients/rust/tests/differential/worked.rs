@@ -1,5 +1,5 @@
-//! Fixed lists: the frames worked by hand, sheets with ice, the small inputs of the table of refusals,
-//! and fields at the limits of a length.
+//! Fixed lists: the frames worked by hand, sheets with ice, with F and with every effect turned, the small inputs of the
+//! table of refusals, and fields at the limits of a length.
 
 use crate::combination::{D, DI, E, F, FA, HP, HV, L, LR, R, S, W, WI};
 use crate::lists::field;
@@ -191,6 +191,17 @@ pub fn fluid() -> Vec<Example> {
         extremes("row 11 without F", cases([1, 0, 2], &flood), MinimumInRow(-80_000, 11)),
         extremes("row 41 without F", iced(ALLOWABLE, &ice), MaximumInRow(170_000, 41)),
         fluid_opposes(),
+    ]
+}
+
+// SCOPE 11.3
+#[rustfmt::skip]
+pub fn turned() -> Vec<Example> {
+    let p2 = P2.map(|(kind, effect)| (kind, -effect));
+    vec![
+        extremes("P2 turned", cases(PLAIN, &p2), Extremes(110_000, -250_000)),
+        extremes("P5 turned", cases(PLAIN, &[(W, -100), (HP, 50)]), Extremes(80_000, -55_000)),
+        extremes("an empty tank, turned", cases(PLAIN, &[(E, 100), (F, -30)]), Extremes(100_000, -42_000)),
     ]
 }
 

@@ -1,29 +1,25 @@
 -- Pattern after pattern.
 -- Assumes nothing.
-use Prim.Native.Nat.{ℕ, _+_, _*_, _-_, _<_, _≤_, _^_}
+use Prim.Native.Nat.{ℕ}
 use native.Mathlib.Omega.{arith}
-use mathlib.Core.Path.{_≡_, refl, sym, _∙_, ap, subst}
 use Rattle.envelope.specs.declared.Best.{Best}
 use Rattle.governing.specs.Ways.{eightOf}
-use Rattle.governing.proofs.Ways.{peak-first, peak-more}
+use Rattle.governing.proofs.Peaks.{peak-first, peak-more}
 use borrow.Author.Needs.{needs}
 use Rattle.governing.proofs.highest.Statement.{statement}
 use Rattle.governing.proofs.highest.Tie as tie
 
-toward-requires-4 : tie.Need-toward-requires-4
-toward-requires-4 c κs = let s = c .before .before .before .before .before .before .before .before .before in (s .pre .3 .sums-range, omega arith, omega arith, s .pre .3 .forth)
-
 toward-requires-5 : tie.Need-toward-requires-5
-toward-requires-5 c κs = let s = c .before .before .before .before .before .before .before .before .before .before .before in (s .pre .3 .sums-range, omega arith, omega arith, s .pre .3 .back)
+toward-requires-5 c κs = let s = c .before .before .before .before .before .before .before .before .before .before .before in (s .pre .3, omega arith, omega arith)
 
 toward-requires-6 : tie.Need-toward-requires-6
-toward-requires-6 c κs = let s = c .before .before .before .before .before .before .before .before .before .before .before .before .before in (s .pre .2 .sums-range, omega arith, omega arith, s .pre .2 .back)
+toward-requires-6 c κs = let s = c .before .before .before .before .before .before .before .before .before .before .before .before .before in (s .pre .2, omega arith, omega arith)
 
 toward-requires-7 : tie.Need-toward-requires-7
-toward-requires-7 c κs = let s = c .before .before .before .before .before .before .before .before .before .before .before .before .before .before .before in (s .pre .1 .sums-range, omega arith, omega arith, s .pre .1 .back)
+toward-requires-7 c κs = let s = c .before .before .before .before .before .before .before .before .before .before .before .before .before .before .before in (s .pre .1, omega arith, omega arith)
 
 toward-requires-8 : tie.Need-toward-requires-8
-toward-requires-8 c κs = let s = c .before .before .before .before .before .before .before .before .before .before .before .before .before .before .before .before .before in (s .pre .0 .sums-range, omega arith, omega arith, s .pre .0 .back)
+toward-requires-8 c κs = let s = c .before .before .before .before .before .before .before .before .before .before .before .before .before .before .before .before .before in (s .pre .0, omega arith, omega arith)
 
 returns : tie.Need-returns
 returns c =
@@ -40,7 +36,7 @@ highest-spec =
     (λ c κs. search needs)
     (λ c κs. search needs)
     (λ c κs. search needs)
-    toward-requires-4
+    (λ c κs. search needs)
     (λ c κs. search needs)
     toward-requires-5
     (λ c κs. search needs)

@@ -6,7 +6,7 @@ use native.Mathlib.Nat.{mul-le-mul}
 use native.Mathlib.Omega.{arith}
 use mathlib.Core.Path.{refl}
 use Rattle.standard.specs.Combination.{denominatorOf}
-use Rattle.station.proofs.Products.{Held, product-fits}
+use Rattle.passes.proofs.Products.{Held, product-fits}
 use Rattle.station.proofs.denominator_of.Statement.{statement}
 use Rattle.station.proofs.denominator_of.Tie as tie
 

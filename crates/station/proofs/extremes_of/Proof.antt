@@ -3,29 +3,24 @@
 use borrow.Author.Needs.{needs}
 use Prim.Native.Nat.{ℕ, _+_, _*_, _<_, _≤_, _^_}
 use native.Mathlib.Omega.{arith}
-use mathlib.Core.List.{List}
-use mathlib.Core.Path.{_≡_, refl, sym, ap, _∙_, subst}
-use lib.Dec.{ltb}
+use mathlib.Core.Path.{_≡_, sym, ap, _∙_, subst}
 use lib.IntN.{ℤ, negℤ, natAbs}
 use lib.ListN.{List·getD-eq-default}
-use Rattle.integers.specs.Sums.{up}
 use Rattle.integers.proofs.Machine.{back, read}
 use Rattle.integers.proofs.Signs.{abs-negated}
 use Rattle.standard.specs.Combination.{caseCount}
 use Rattle.standard.specs.Kinds.{kindCount, fluid}
 use Rattle.standard.specs.Rows.{rowCount}
-use Rattle.optimum.specs.Row.{totalOf}
+use Rattle.optimum.specs.Row.{actsTogether}
 use Rattle.envelope.specs.declared.Best.{Best}
-use Rattle.envelope.specs.declared.Extreme.{Extreme}
 use Rattle.envelope.specs.declared.Extremes.{Extremes}
 use Rattle.envelope.specs.Range.{kindOf, effectOf, effectMost, EffectsInRange}
 use Rattle.envelope.specs.Envelope.{governingOf, extremeIn, negatedOf, extremesOf}
 use Rattle.envelope.proofs.Limits.{row-below, value-fits}
-use Rattle.sums.specs.Sums.{Summed}
-use Rattle.sums.proofs.Gathered.{summed}
-use Rattle.governing.specs.Ways.{Ready}
-use Rattle.governing.proofs.Ways.{forward-is, opposite-is, forward-fluid, opposite-fluid, ready}
-use Rattle.naming.proofs.BestSets.{places-in-range, chosen-in-range}
+use Rattle.sums.proofs.Gathered.{places-in-range}
+use Rattle.passes.specs.Passes.{ServesBoth}
+use Rattle.naming.proofs.BestSets.{chosen-in-range}
+use Rattle.station.specs.Promises.{ExtremesFromPass}
 use Rattle.station.proofs.Promised.{extremes-govern}
 use Rattle.station.proofs.Named.{sets-fit, extreme-is, negated-extreme-is}
 use Rattle.station.proofs.extremes_of.Statement.{statement}
@@ -53,15 +48,12 @@ opposed-small s k = omega (arith, abs-negated (effect s k), small s k)
 in-range : (s : tie.Start) → EffectsInRange (s .args .effects .now)
 in-range s = record { long = s .pre .0 .effects-long; range = s .pre .0 .effects-range }
 
--- the sums of the pass
-sums-are : (c : tie.After-sums-of) → let s = c .before .before .before .before in Summed (c .sums-of .result) (kind s) (effect s)
-sums-are c =
+-- the sums of the pass serve both extremes
+served : (c : tie.After-component-pass) → let s = c .before .before .before .before in ServesBoth (c .component-pass .result) (kind s) (effect s)
+served c =
     let p = c .before .before in
     let s = p .before .before in
-    summed (c .sums-of .result) (p .places-of .result) (kind s) (effect s) (p .places-of .ensures) (c .sums-of .ensures)
-
-sums-ready : (c : tie.After-sums-of) → Ready (c .sums-of .result)
-sums-ready c = let s = c .before .before .before .before in ready (s .args .s) (c .sums-of .result) (kind s) (effect s) (below s) (sums-are c) (small s)
+    c .component-pass .ensures .serves (kind s) (below s) (p .places-of .ensures)
 
 -- the rows that govern
 most-is : (c : tie.After-toward) → let s = c .before .before .before .before .before .before in
@@ -69,48 +61,42 @@ most-is : (c : tie.After-toward) → let s = c .before .before .before .before .
 most-is c =
     let m = c .before .before in
     let s = m .before .before .before .before in
-    c .toward .ensures ∙ forward-is (s .args .s) (m .sums-of .result) (kind s) (effect s) (below s) (sums-are m) (effect s) (λ k. refl)
+    c .toward .ensures ∙ served m .governs (s .args .s) .as-is
 
 least-is : (c : tie.After-toward2) → let s = c .before .before .before .before .before .before .before .before in
     c .toward2 .result ≡ governingOf (s .args .s) (kind s) (λ k. negℤ (effect s k))
 least-is c =
     let m = c .before .before .before .before in
     let s = m .before .before .before .before in
-    c .toward2 .ensures ∙ opposite-is (s .args .s) (m .sums-of .result) (kind s) (effect s) (below s) (sums-are m) (λ k. negℤ (effect s k)) (λ k. refl)
+    c .toward2 .ensures ∙ served m .governs (s .args .s) .turned
 
 places-of-requires : tie.Need-places-of-requires
 places-of-requires c κs = let s = c .before in record { long = s .pre .0 .kinds-long; range = s .pre .0 .kinds-range }
 
-sums-of-requires : tie.Need-sums-of-requires
-sums-of-requires c κs =
+component-pass-requires : tie.Need-component-pass-requires
+component-pass-requires c κs =
     let p = c .before in
     let s = p .before .before in
-    (places-in-range (p .places-of .result) (kind s) (p .places-of .ensures), in-range s, s .pre .1)
+    (record { kind = kind s; below = below s; are = p .places-of .ensures }, in-range s, s .pre .1)
 
 toward-requires : tie.Need-toward-requires
-toward-requires c κs = let r = sums-ready (c .before) in (r .sums-range, omega arith, omega arith, r .forth)
+toward-requires c κs = (served (c .before) .ready, omega arith, omega arith)
 
 toward-requires-2 : tie.Need-toward-requires-2
-toward-requires-2 c κs = let r = sums-ready (c .before .before .before) in (r .sums-range, omega arith, omega arith, r .back)
+toward-requires-2 c κs = (served (c .before .before .before) .ready, omega arith, omega arith)
 
 -- whether the F cases act
-raised-is : (c : tie.After-fluid-acts) → let s = c .before .before .before .before .before .before .before .before .before .before in c .fluid-acts .result ≡ ltb 0 (up (totalOf (kind s) (effect s) fluid))
-raised-is c =
-    let m = c .before .before .before .before .before .before in
-    let s = m .before .before .before .before in
-    c .fluid-acts .ensures ∙ forward-fluid (s .args .s) (m .sums-of .result) (kind s) (effect s) (below s) (sums-are m) (effect s) (λ k. refl)
+raised-is : (c : tie.After-fluid-acts) → let s = c .before .before .before .before .before .before .before .before .before .before in c .fluid-acts .result ≡ actsTogether (kind s) (effect s) fluid
+raised-is c = c .fluid-acts .ensures ∙ served (c .before .before .before .before .before .before) .fluid-acts .as-is
 
-lowered-is : (c : tie.After-fluid-acts2) → let s = c .before .before .before .before .before .before .before .before .before .before .before .before in c .fluid-acts2 .result ≡ ltb 0 (up (totalOf (kind s) (λ k. negℤ (effect s k)) fluid))
-lowered-is c =
-    let m = c .before .before .before .before .before .before .before .before in
-    let s = m .before .before .before .before in
-    c .fluid-acts2 .ensures ∙ opposite-fluid (s .args .s) (m .sums-of .result) (kind s) (effect s) (below s) (sums-are m) (λ k. negℤ (effect s k)) (λ k. refl)
+lowered-is : (c : tie.After-fluid-acts2) → let s = c .before .before .before .before .before .before .before .before .before .before .before .before in c .fluid-acts2 .result ≡ actsTogether (kind s) (λ k. negℤ (effect s k)) fluid
+lowered-is c = c .fluid-acts2 .ensures ∙ served (c .before .before .before .before .before .before .before .before) .fluid-acts .turned
 
 fluid-acts-requires : tie.Need-fluid-acts-requires
-fluid-acts-requires c κs = (sums-ready (c .before .before .before .before .before) .sums-range .long, omega arith, omega arith)
+fluid-acts-requires c κs = (served (c .before .before .before .before .before) .ready .sums-range .long, omega arith, omega arith)
 
 fluid-acts-requires-2 : tie.Need-fluid-acts-requires-2
-fluid-acts-requires-2 c κs = (sums-ready (c .before .before .before .before .before .before .before) .sums-range .long, omega arith, omega arith)
+fluid-acts-requires-2 c κs = (served (c .before .before .before .before .before .before .before) .ready .sums-range .long, omega arith, omega arith)
 
 sets-at-requires : tie.Need-sets-at-requires
 sets-at-requires c κs =
@@ -180,7 +166,8 @@ returns c =
     let a = b .before .before in
     let u = a .before .before in
     let t = u .before .before in
-    let p = t .before .before .before .before in
+    let q = t .before .before in
+    let p = q .before .before in
     let s = p .before .before in
     let places = p .places-of .result in
     let held = p .places-of .ensures in
@@ -196,7 +183,13 @@ returns c =
     ∙ ap (λ (b : Best). negatedOf (extremeIn (s .args .s) (kind s) (λ k. negℤ (effect s k)) b)) (least-is u) in
     let is : _≡_ {A = Extremes} (record { maximum = m .extreme .result; minimum = c .extreme2 .result }) (extremesOf (s .args .s) (kind s) (effect s)) =
     λ i. record { maximum = maximum i; minimum = minimum i } in
-    (is, extremes-govern (s .args .s) (kind s) (past s) (effect s) _ is)
+    let from : ExtremesFromPass (s .args .s) (kind s) (effect s) (record { maximum = m .extreme .result; minimum = c .extreme2 .result }) = record {
+      sums = q .component-pass .result;
+      serve = served q;
+      maximum = m .extreme .ensures .0 ∙ back (t .toward .result .value) (most-fits t) ∙ ap (λ (x : Best). x .value) (t .toward .ensures);
+      minimum = value ∙ ap (λ (x : Best). negℤ (x .value)) (u .toward2 .ensures);
+    } in
+    (is, extremes-govern (s .args .s) (kind s) (past s) (effect s) _ is, from)
 
 pub extremes-of-spec : {M : Type 1} → statement M
 extremes-of-spec =
@@ -204,7 +197,7 @@ extremes-of-spec =
     (tie.spec
     places-of-requires
     (λ c. search needs)
-    sums-of-requires
+    component-pass-requires
     (λ c. search needs)
     toward-requires
     (λ c. search needs)

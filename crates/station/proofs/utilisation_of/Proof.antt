@@ -1,18 +1,16 @@
 -- The pattern that governs, the sets of its row, and the verdict.
 -- Assumes nothing.
-use Prim.Native.Nat.{ℕ, _+_, _*_, _<_, _≤_, _^_}
-use native.Mathlib.Nat.{mul-le-mul}
+use Prim.Native.Nat.{ℕ, _<_, _≤_, _^_}
 use native.Mathlib.Omega.{arith}
-use mathlib.Core.Path.{_≡_, refl, sym, ap, _∙_, subst}
-use lib.Dec.{leb, ltb}
+use mathlib.Core.Path.{_≡_, sym, ap, _∙_, subst}
+use lib.Dec.{leb}
 use lib.IntN.{ℤ, natAbs}
 use lib.ListN.{List·getD-eq-default}
-use Rattle.integers.specs.Sums.{up}
-use Rattle.integers.proofs.Machine.{back, read}
+use Rattle.integers.proofs.Machine.{back}
 use Rattle.standard.specs.Combination.{caseCount}
 use Rattle.standard.specs.Kinds.{kindCount, fluid}
 use Rattle.standard.specs.Rows.{rowCount}
-use Rattle.optimum.specs.Row.{totalOf}
+use Rattle.optimum.specs.Row.{actsTogether}
 use Rattle.envelope.specs.declared.Best.{Best}
 use Rattle.envelope.specs.declared.Extreme.{Extreme}
 use Rattle.envelope.specs.declared.Peak.{Peak}
@@ -22,8 +20,12 @@ use Rattle.envelope.specs.Range.{kindOf, effectOf, EffectsInRange, WeightsInRan
 use Rattle.envelope.specs.Envelope.{governingOf, extremeIn, weighed, patternOf, patternBest, peakOf, utilisedOf}
 use Rattle.envelope.proofs.Limits.{row-below, value-fits, weighed-most}
 use Rattle.envelope.proofs.Patterns.{pattern-in-range}
-use Rattle.envelope.proofs.Utilisation.{peak-own}
-use Rattle.naming.proofs.BestSets.{places-in-range, chosen-in-range}
+use Rattle.envelope.proofs.Utilisation.{peak-own, peak-inside}
+use Rattle.sums.proofs.Gathered.{places-in-range}
+use Rattle.passes.specs.Passes.{ServesPatterns}
+use Rattle.passes.proofs.Served.{peak-served, fluid-served}
+use Rattle.naming.proofs.BestSets.{chosen-in-range}
+use Rattle.station.specs.Promises.{UtilisationFromPass}
 use Rattle.station.proofs.Promised.{utilisation-governs}
 use Rattle.station.proofs.Named.{sets-fit, extreme-is}
 use borrow.Author.Needs.{needs}
@@ -46,10 +48,15 @@ below s k = omega (arith, s .pre .0 .kinds-range k)
 in-range : (s : tie.Start) → EffectsInRange (s .args .effects .now)
 in-range s = record { long = s .pre .0 .effects-long; range = s .pre .0 .effects-range }
 
+-- the sums of the pass serve the eight patterns
+served : (c : tie.After-peak-of) → let s = c .before .before .before .before in let q = c .peak-of .ensures in
+    ServesPatterns (q .s0) (q .s1) (q .s2) (q .s3) (kind s) (effect s) (s .args .p)
+served c = let p = c .before .before in let s = p .before .before in c .peak-of .ensures .pass .serves (kind s) (below s) (p .places-of .ensures)
+
 -- the pattern that governs
 peak-is : (c : tie.After-peak-of) → let s = c .before .before .before .before in
     c .peak-of .result .peak ≡ peakOf (patternBest (s .args .s) (kind s) (effect s) (s .args .p)) 7
-peak-is c = let p = c .before .before in let s = p .before .before in c .peak-of .ensures .is (kind s) (below s) (p .places-of .ensures)
+peak-is c = let s = c .before .before .before .before in let q = c .peak-of .ensures in q .peak ∙ peak-served (q .s0) (q .s1) (q .s2) (q .s3) (kind s) (effect s) (s .args .p) (served c) (s .args .s)
 
 -- its row governs the effects weighed by it
 best-is : (c : tie.After-pattern-weights) → let q = c .before .before .before in let s = q .before .before .before .before in
@@ -61,15 +68,21 @@ best-is c =
     ap (λ (x : Peak). x .best) (peak-is q) ∙ peak-own b 7 ∙ ap (λ (x : Peak). b (x .pattern)) (sym (peak-is q))
     ∙ ap (λ (w : Weights). governingOf (s .args .s) (kind s) (weighed w (effect s))) (sym (c .pattern-weights .ensures))
 
+-- the pattern is one of the eight
+pattern-below : (c : tie.After-peak-of) → c .peak-of .result .peak .pattern ≤ 7
+pattern-below c =
+    let s = c .before .before .before .before in
+    subst (λ (x : Peak). x .pattern ≤ 7) (sym (peak-is c)) (peak-inside (patternBest (s .args .s) (kind s) (effect s) (s .args .p)) 7)
+
 -- whether the F cases act
 acts-is : (c : tie.After-pattern-weights) → let q = c .before .before .before in let s = q .before .before .before .before in
-    q .peak-of .result .fluid ≡ ltb 0 (up (totalOf (kind s) (weighed (c .pattern-weights .result) (effect s)) fluid))
+    q .peak-of .result .fluid ≡ actsTogether (kind s) (weighed (c .pattern-weights .result) (effect s)) fluid
 acts-is c =
     let q = c .before .before .before in
-    let p = q .before .before in
-    let s = p .before .before in
-    q .peak-of .ensures .acts (kind s) (below s) (p .places-of .ensures)
-    ∙ ap (λ (w : Weights). ltb 0 (up (totalOf (kind s) (weighed w (effect s)) fluid))) (sym (c .pattern-weights .ensures))
+    let s = q .before .before .before .before in
+    let f = q .peak-of .ensures in
+    f .fluid ∙ fluid-served (f .s0) (f .s1) (f .s2) (f .s3) (kind s) (effect s) (s .args .p) (served q) (q .peak-of .result .peak .pattern) (pattern-below q)
+    ∙ ap (λ (w : Weights). actsTogether (kind s) (weighed w (effect s)) fluid) (sym (c .pattern-weights .ensures))
 
 weights : (c : tie.After-pattern-weights) → WeightsInRange (c .pattern-weights .result)
 weights c =
@@ -156,7 +169,16 @@ returns c =
       low = x .extreme .result .low;
     }) (utilisedOf (s .args .s) (kind s) (effect s) (s .args .p)) =
     λ i. record { numerator = n i; denominator = c .denominator-of .ensures i; pass = leb (n i) (c .denominator-of .ensures i); row = is i .row; acting = is i .acting; low = is i .low } in
-    (used, utilisation-governs (s .args .s) (kind s) (past s) (effect s) (s .args .p) _ used)
+    let g = q .peak-of .ensures in
+    let from : UtilisationFromPass (s .args .s) (kind s) (effect s) (s .args .p) _ = record {
+      s0 = g .s0;
+      s1 = g .s1;
+      s2 = g .s2;
+      s3 = g .s3;
+      serve = served q;
+      numerator = m .magnitude .ensures ∙ ap natAbs (back (x .extreme .result .value) (extreme-small x) ∙ value-is x) ∙ ap (λ (z : Peak). natAbs (z .best .value)) (g .peak);
+    } in
+    (used, utilisation-governs (s .args .s) (kind s) (past s) (effect s) (s .args .p) _ used, from)
 
 pub utilisation-of-spec : {M : Type 1} → statement M
 utilisation-of-spec =

@@ -8,9 +8,9 @@ use mathlib.Core.Path.{sym, ap, _∙_}
 use lib.Dec.{eqb}
 use Rattle.integers.proofs.Machine.{read}
 use Rattle.envelope.specs.Envelope.{signedBy, patternOf}
-use Rattle.station.proofs.Products.{Held, product-fits}
-use Rattle.station.proofs.pattern_weights.Statement.{statement}
-use Rattle.station.proofs.pattern_weights.Tie as tie
+use Rattle.passes.proofs.Products.{Held, product-fits}
+use Rattle.passes.proofs.pattern_weights.Statement.{statement}
+use Rattle.passes.proofs.pattern_weights.Tie as tie
 
 held : (c : tie.Start) → Held (c .args .p)
 held c = search needs

@@ -6,8 +6,8 @@ use lib.IntN.{negℤ, pos}
 use mir.Syntax.{w64}
 use mir.Val.{toZ, ofZ}
 use Rattle.integers.proofs.Machine.{read}
-use Rattle.station.proofs.signed_by.Statement.{statement}
-use Rattle.station.proofs.signed_by.Tie as tie
+use Rattle.passes.proofs.signed_by.Statement.{statement}
+use Rattle.passes.proofs.signed_by.Tie as tie
 
 weight-read : (c : tie.After-signed) → toZ w64 (ofZ w64 (c .signed .result)) ≡ pos (c .before .args .x)
 weight-read c = read (c .signed .result) (c .signed .ok) ∙ c .signed .ensures
