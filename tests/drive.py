@@ -53,9 +53,9 @@ def feed(binary, pieces, pause):
 def random_fields(seed):
     r, b = random.Random(seed), b''
     for _ in range(2000):
-        tag = r.randrange(0, 10)
+        tag = r.randrange(0, 11)
         n = LENGTHS.get(tag, 0) if r.random() < 0.9 else r.randrange(0, 300)
-        b += f(tag, bytes(r.choice([0, 1, 2, 3, 9, 16, 40, 255]) for _ in range(n)))
+        b += f(tag, bytes(r.choice([0, 1, 2, 3, 9, 14, 16, 40, 255]) for _ in range(n)))
     return b
 
 

@@ -2,17 +2,30 @@
 """Makes the stored input and output of `frames` in crates/frames; compare.py takes further streams from here.
 The program is not needed: expected bytes are those of docs/SCOPE.md and docs/FIELDS.md, or are worked out by enumerating every
 admissible combination (model.py, made apart from the library)."""
+import functools
 import os
 import random
 import struct
 import model as m
 from stations import STATIONS
-from model import D, F, HP, HV, L, LR, S, R, W, E, FA, DI, WI, f, effects, caps
+from model import D, F, HP, HV, L, LR, S, R, W, E, FA, DI, WI, T, f, effects, caps, word
 
 h = bytes.fromhex
 HERE = os.path.dirname(os.path.abspath(__file__))
 STATS = dict(looks=0, unique=0, tied=0)
 ROWS_SEEN = set()
+
+
+@functools.lru_cache(2)
+def combos_by(method, live, zone, ice, straining, kinds):
+    s = m.Sheet(method, live, zone)
+    s.ice, s.straining, s.kind = ice, straining, dict(kinds)
+    return list(s.combos())
+
+
+def combos(sheet):
+    """The admissible combinations, which the effects have no part in."""
+    return combos_by(sheet.method, sheet.live, sheet.zone, sheet.ice, sheet.straining, tuple(sheet.kind.items()))
 
 
 def named(sheet, station, weights, value):
@@ -22,7 +35,7 @@ def named(sheet, station, weights, value):
     e = {c: sum(w * x for w, x in zip(weights, sheet.eff(c, station))) for c in sheet.kind}
     full = sum(e[c] for c, k in sheet.kind.items() if k == F) > 0
     reach = []
-    for row, terms, acting, low in sheet.combos():
+    for row, terms, acting, low in combos(sheet):
         if sum(fa * e[c] for c, fa, _ in terms) != value:
             continue
         free = [c for c, _, _ in terms if sheet.kind[c] not in (D, F, HP)]
@@ -54,7 +67,7 @@ def choose(found, sheet, station, patterns):
 
 def extremes(sheet, station, comp):
     unit = [int(k == comp) for k in range(3)]
-    every = [(sum(fa * sheet.eff(c, station)[comp] for c, fa, _ in t), (r, a, l)) for r, t, a, l in sheet.combos()]
+    every = [(sum(fa * sheet.eff(c, station)[comp] for c, fa, _ in t), (r, a, l)) for r, t, a, l in combos(sheet)]
     out = []
     for sign in (1, -1):
         v = max(sign * x for x, _ in every)
@@ -67,29 +80,39 @@ def utilisation(sheet, station):
     nc, yc, zc = sheet.cap[station]
     unit = (yc * zc, nc * zc, nc * yc)
     every = []
-    for r, t, a, l in sheet.combos():
+    for r, t, a, l in combos(sheet):
         part = [sum(fa * sheet.eff(c, station)[k] for c, fa, _ in t) for k in range(3)]
         every.append((sum(abs(p) * u for p, u in zip(part, unit)), part, (r, a, l)))
     num = max(x for x, _, _ in every)
     patterns = []
     for p in range(8):  # bit 0: N taken with a minus sign, bit 1: My, bit 2: Mz; the first of equal patterns
         w = [-u if p >> k & 1 else u for k, u in enumerate(unit)]
-        best = max(sum(x * y for x, y in zip(w, part)) for _, part, _ in every)
-        patterns.append((w, num if best == num else None))
+        reached = any(x == num == sum(y * z for y, z in zip(w, part)) for x, part, _ in every)
+        patterns.append((w, num if reached else None))
     return (num, 1000 * nc * yc * zc) + choose([k for x, _, k in every if x == num], sheet, station, patterns)
 
 
 def serve(sheet, b):
     """One reading: sheet, answer, bytes consumed."""
     n = len(b) if m.refusal(sheet, b) == 3 else 3 + (b[1] << 8 | b[2])
-    if not m.refusal(sheet, b) and b[0] == 6:
-        hi, lo = extremes(sheet, b[3], b[4])
-        return sheet, h('860022') + struct.pack('>qBII', *hi) + struct.pack('>qBII', *lo), n
-    if not m.refusal(sheet, b) and b[0] == 7:
-        num, den, row, acting, low = utilisation(sheet, b[3])
-        return sheet, h('87001a') + struct.pack('>qqBBII', num, den, int(num <= den), row, acting, low), n
+    if not m.refusal(sheet, b) and b[0] in (6, 7):
+        key = sheet.saved(), b[:n]
+        if key not in LOOKED:
+            LOOKED[key] = look(sheet, b)
+        return sheet, LOOKED[key], n
     sheet, a = m.serve(sheet, b[:n], None)
     return sheet, a, n
+
+
+LOOKED = {}  # answers to looks, by saved sheet and field
+
+
+def look(sheet, b):
+    if b[0] == 6:
+        hi, lo = extremes(sheet, b[3], b[4])
+        return h('860022') + struct.pack('>qBII', *hi) + struct.pack('>qBII', *lo)
+    num, den, row, acting, low = utilisation(sheet, b[3])
+    return h('87001a') + struct.pack('>qqBBII', num, den, int(num <= den), row, acting, low)
 
 
 def run(stream):
@@ -121,7 +144,7 @@ CUT = {  # each ends with a 3; P2's bytes after a length above 60,000 are not an
     'length_60001_at_once_and_stop': h('01EA61') + P2_IN, 'length_65535_at_once_and_stop': P2_IN + h('01FFFF') + P2_IN,
     '3_before_1_cut_unknown_tag': h('7F0001'), '3_before_1_long_unknown_tag': h('FFEA61') + P2_IN, '3_before_2_cut_wrong_length': h('04000200'),
     '3_before_2_long_wrong_length': h('04EA61') + P2_IN, '3_before_4_cut': h('0100030300'), '3_before_5_cut': h('03000820'), '3_before_6_cut': h('06000210'),
-    '3_before_12_cut': h('0300080000'), '3_before_10_cut': h('050007000000'),
+    '3_before_12_cut': h('0300080000'), '3_before_10_cut': h('050007000000'), '3_before_15_cut': h('090002FF'), '3_before_15_long': h('09EA61') + P2_IN,
 }
 
 
@@ -130,7 +153,7 @@ def refusals():
     small input."""
     b = f(4, 0) + f(7, 0) + f(6, 0, 0) + f(3, 0, 0, effects(1, 1, 1)) + b''.join(m.before_any_settings())
     no = [12, 13, 12, 13]
-    small = [('7F0000', 1), ('0400020000', 2), ('010003030000', 4), ('04000120', 5), ('07000110', 6), ('020002000E', 7), ('08000102', 4),
+    small = [('7F0000', 1), ('0400020000', 2), ('010003030000', 4), ('04000120', 5), ('07000110', 6), ('020002000F', 7), ('08000102', 4), ('0900020000', 15),
              ('0600020003', 8), ('0300080000271100000000', 9), ('05000700000000010001', 10), ('04000100', 12), ('07000100', 13)]
     for s, n in small:
         b += FRESH + h(s) + f(6, 0, 0)
@@ -138,7 +161,7 @@ def refusals():
     b += FRESH + h('0200020001') * 2 + f(6, 0, 0)
     no.append(11)
     b += FRESH
-    for tag in (0x00, 0x09, 0xFF, 0x80, 0x81, 0x86, 0x87):
+    for tag in (0x00, 0x0A, 0xFF, 0x80, 0x81, 0x86, 0x87):
         b += f(tag) + f(tag, 1)
         no += [1, 1]
     for tag, n in m.LENGTHS.items():
@@ -158,7 +181,11 @@ def limits():
         no.append(4)
     b += f(8, 1) + f(8, 2) + f(8, 255) + f(8, 0)
     no += [4, 4]
-    b += f(2, 31, 13) + f(2, 32, 13) + f(2, 255, 1) + f(2, 30, 0) + f(2, 30, 14) + f(2, 30, 255) + f(4, 31) + f(4, 31) + f(4, 32) + f(4, 255)
+    for method, inside, outside in ((1, (1000, 2000, 1001), (999, 2001, 749, 750, 0, 65535)), (2, (750, 1000, 999), (749, 1001, 2000, 0, 65535))):
+        b += f(1, method, 0, 0) + b''.join(f(9, word(n)) for n in inside + outside)
+        no += [15] * len(outside)
+    b += FRESH
+    b += f(2, 31, 14) + f(2, 32, 14) + f(2, 255, 1) + f(2, 30, 0) + f(2, 30, 15) + f(2, 30, 255) + f(4, 31) + f(4, 31) + f(4, 32) + f(4, 255)
     no += [5, 5, 7, 7, 7, 12, 5, 5]
     b += f(2, 0, D) + f(3, 0, 15, effects(10000, -10000, 10000)) + f(3, 0, 16, effects(0, 0, 0)) + f(3, 0, 255, effects(0, 0, 0))
     no += [6, 6]
@@ -181,7 +208,7 @@ def limits():
 def orders():
     """Point 3: where two or more are due, the first; after each, looks that show the sheet as it was."""
     z, bad = effects(0, 0, 0), [effects(10001, 5, 5), effects(5, -10001, 5), effects(5, 5, 32767)]
-    full = [(f(2, 32, 0), 5), (f(2, 255, 14), 5), (f(2, 0, 0), 7), (f(2, 0, 14), 7), (f(2, 0, 1), 11), (f(2, 0, 9), 11), (f(2, 5, 0), 7),
+    full = [(f(2, 32, 0), 5), (f(2, 255, 15), 5), (f(2, 0, 0), 7), (f(2, 0, 15), 7), (f(2, 0, 14), 11), (f(2, 0, 1), 11), (f(2, 0, 9), 11), (f(2, 5, 0), 7),
             (f(3, 32, 16, z), 5), (f(3, 255, 255, bad[0]), 5), (f(3, 5, 16, z), 6), (f(3, 5, 16, bad[0]), 6), (f(3, 5, 0, z), 12),
             (f(3, 0, 1, bad[0]), 9), (f(3, 5, 1, effects(7, 7, 7)), 12),
             (f(4, 32), 5), (f(4, 5), 12), (f(6, 16, 3), 6), (f(6, 255, 255), 6), (f(6, 0, 3), 8), (f(7, 16), 6), (f(7, 1), 13)]
@@ -191,15 +218,18 @@ def orders():
         full += [(f(5, 16, x), 6), (f(5, 0, x), 10), (f(5, 1, x), 10)]
     full += [(f(1, *x), 4) for x in ((0, 0, 0), (2, 2, 0), (2, 1, 3), (3, 2, 3))]
     full += [(f(8, 2), 4), (f(8, 255), 4), (f(8), 2), (f(8, 0, 0), 2), (f(8, 2, 0), 2)]
+    full += [(f(9, word(n)), 15) for n in (999, 2001, 750, 0, 65535)]
+    full += [(f(9), 2), (f(9, 7), 2), (f(9, word(2001), 0), 2), (f(9, word(1000), 0), 2)]
     # 1 before 2 and before any value of the body; 2 before each refusal of a body value and before 11, 12, 13
-    full += [(f(t, bytes([255] * n)), 1) for t in (0x00, 0x09, 0x7F, 0xFF) for n in (1, 2, 3, 8)]
-    full += [(f(1, 3, 2, 3, 0), 2), (f(1, 3, 2), 2), (f(2, 32, 14, 0), 2), (f(2, 32), 2), (f(2, 0, 1, 0), 2), (f(3, 32, 16, bad[0], 0), 2), (f(3, 32, 16), 2),
+    full += [(f(t, bytes([255] * n)), 1) for t in (0x00, 0x0A, 0x7F, 0xFF) for n in (1, 2, 3, 8)]
+    full += [(f(1, 3, 2, 3, 0), 2), (f(1, 3, 2), 2), (f(2, 32, 15, 0), 2), (f(2, 32), 2), (f(2, 0, 1, 0), 2), (f(3, 32, 16, bad[0], 0), 2), (f(3, 32, 16), 2),
              (f(3, 5, 0, z, 0), 2), (f(4, 32, 32), 2), (f(4, 5, 5), 2), (f(5, 16, caps(0, 0, 0), 0), 2), (f(5, 16), 2), (f(5, 0, caps(0, 0, 0)[:5]), 2),
              (f(6, 16, 3, 0), 2), (f(6, 16), 2), (f(6, 0, 3, 0), 2), (f(7, 16, 0), 2), (f(7, 1, 1), 2)]
     # a unique combination at each look, so a changed factor, effect or capacity would show
-    b = f(1, 1, 1, 1) + f(8, 1)
+    b = f(1, 1, 1, 1) + f(8, 1) + f(9, word(1300))
     for c, k, e in ((0, D, (100, -40, 7)), (1, L, (50, 60, -30)), (2, W, (-200, 90, 15)), (3, W, (80, -70, -25)), (31, HP, (-35, 20, 11)),
-                    (4, FA, (9, 12, 4)), (6, FA, (-8, -9, -3)), (7, DI, (90, 11, 80)), (8, WI, (15, -4, -60))):
+                    (4, FA, (9, 12, 4)), (6, FA, (-8, -9, -3)), (7, DI, (90, 11, 80)), (8, WI, (15, -4, -60)), (9, T, (13, -17, 21)),
+                    (10, T, (-6, 3, -2))):
         b += f(2, c, k) + f(3, c, 0, effects(*e))
     b += f(5, 0, caps(250, 90, 70))
     look = f(6, 0, 0) + f(6, 0, 1) + f(6, 0, 2) + f(7, 0) + f(4, 5) + f(7, 1)  # place 5 still empty, station 1 still without
@@ -240,19 +270,25 @@ def frames_by_hand():
     return b
 
 
-KINDS = [D, F, HP, HV, L, LR, S, R, W, E, FA, W, FA, E, HP, DI, WI, DI, WI, F]
+KINDS = [D, F, HP, HV, L, LR, S, R, W, E, FA, W, FA, E, HP, DI, WI, DI, WI, F, T, T]
+FACTORS = {1: (1000, 2000, 1300, 1999), 2: (1000, 750, 850, 999)}  # of T, by method
 
 
 def settings():
-    return [(me, li, zo, ice) for ice in (0, 1) for me in (1, 2) for zo in (0, 1, 2) for li in (0, 1)]
+    every = [(me, li, zo, ice) for ice in (0, 1) for me in (1, 2) for zo in (0, 1, 2) for li in (0, 1)]
+    return [s + (FACTORS[s[0]][i % 4],) for i, s in enumerate(every)]
+
+
+def settled(me, li, zo, ice, straining):
+    return f(1, me, li, zo) + f(8, 1) * ice + f(9, word(straining)) * (straining != 1000)
 
 
 def unique_station(values, cap):
     """The governing rows in all settings, or None where a look has more than one combination."""
     rows_seen = set()
-    for me, li, zo, ice in settings():
+    for me, li, zo, ice, straining in settings():
         s = m.Sheet(me, li, zo)
-        s.ice = ice
+        s.ice, s.straining = ice, straining
         s.kind = dict(enumerate(KINDS))
         s.effect = {(c, 0): v for c, v in enumerate(values)}
         u = (cap[1] * cap[2], cap[0] * cap[2], cap[0] * cap[1])
@@ -280,8 +316,8 @@ def search(tries, seed):
             top = rng.choice([20, 100, 400, 1500])
             return rng.choice([-1, 1]) * rng.randint(1, top)
         values = [tuple(num(k) for _ in range(3)) for k in KINDS]
-        # the second W, Fa, E, Hp, Di, Wi and F pull the other way
-        for a, b in ((8, 11), (10, 12), (9, 13), (2, 14), (15, 17), (16, 18), (1, 19)):
+        # the second W, Fa, E, Hp, Di, Wi, F and T pull the other way
+        for a, b in ((8, 11), (10, 12), (9, 13), (2, 14), (15, 17), (16, 18), (1, 19), (20, 21)):
             values[b] = tuple((-1 if x > 0 else 1) * abs(y) for x, y in zip(values[a], values[b]))
         cap = tuple(rng.randint(200, 3000) for _ in range(3))
         got = unique_station(values, cap)
@@ -292,11 +328,12 @@ def search(tries, seed):
 
 
 def every_setting():
-    """Point 5: methods, zones, live options and ice, a case of each kind (F, W, E, Fa, Hp, Di and Wi twice), five stations, no ties."""
+    """Point 5: methods, zones, live options and ice with several straining factors, a case of each kind (F, W, E, Fa, Hp, Di, Wi and T
+    twice), five stations, no ties."""
     b = b''
     assert all(unique_station(v, c) for _, v, c in STATIONS)
-    for me, li, zo, ice in settings():
-        b += f(1, me, li, zo) + f(8, 1) * ice
+    for setting in settings():
+        b += settled(*setting)
         for c, k in enumerate(KINDS):
             b += f(2, c, k)
         for st, values, cap in STATIONS:
@@ -345,13 +382,26 @@ def fluid():
     return b
 
 
-PAIR_SETTINGS = [(1, 1, 1, 1), (2, 0, 2, 1)]
+def straining():
+    """Point 11: sheets with T worked by hand, the factor set, refused and saved, utilisations and verdicts by the factor."""
+    m.check_straining()
+    sheets = m.straining_sheets()
+    for fields, (cases, _, hi, lo, rows_hi, rows_lo) in zip(sheets, m.STRAINING_WORKED):
+        got = struct.unpack('>qBIIqBII', run(b''.join(fields))[1][-1][1][3:])
+        assert (got[0], got[1], got[4], got[5]) == (hi, min(rows_hi), lo, min(rows_lo)), (cases, got)
+    b = b''.join(b''.join(fields) for fields in sheets + [m.straining_set(), m.straining_utilisations()])
+    due(b, [15] * 6 + [2] * 3 + [4] + [15] * 5 + [2] * 3)
+    verdicts = [a[19] for _, a in run(b''.join(m.straining_utilisations()))[1] if a[0] == 0x87]
+    assert verdicts[:8] == [1, 1, 0, 0, 0, 0, 1, 0], verdicts
+    return b
+
+
+PAIR_SETTINGS = [(1, 1, 1, 1, 2000), (2, 0, 2, 1, 750)]
 
 
 def every_kind(setting, values, cap):
     """The fields of a sheet with KINDS, and their effects and the capacities at station 6."""
-    me, li, zo, ice = setting
-    out = [f(1, me, li, zo)] + [f(8, 1)] * ice + [f(2, c, k) for c, k in enumerate(KINDS)]
+    out = m.fields_of(settled(*setting)) + [f(2, c, k) for c, k in enumerate(KINDS)]
     return out + [f(3, c, 6, effects(*v)) for c, v in enumerate(values)] + [f(5, 6, caps(*cap))]
 
 
@@ -391,7 +441,7 @@ def long_fields():
 
 POINTS = {'1_worked_exchange_p2': lambda: P2_IN, '2_each_refusal': refusals, '3_refusal_orders': orders, '4_p1_to_p10': frames_by_hand,
           '5_methods_zones_live_options': every_setting, '6_groups': groups, '7_long_fields': long_fields,
-          '8_ice': ice, '9_fluid': fluid, '10_pair': pair}
+          '8_ice': ice, '9_fluid': fluid, '10_pair': pair, '11_straining': straining}
 BUFFER = 65536  # what `frames` reads in one turn, at most
 
 

@@ -7,7 +7,7 @@ import os
 import random
 import struct
 
-D, F, HP, HV, L, LR, S, R, W, E, FA, DI, WI = range(1, 14)
+D, F, HP, HV, L, LR, S, R, W, E, FA, DI, WI, T = range(1, 15)
 
 # SCOPE 3.2 and 3.3, column by column: D F L roof snow-only W E H. 'f' is the live option's factor.
 PLAIN = {
@@ -75,16 +75,24 @@ def column_factor(cols, kind, live):
     return f
 
 
+# SCOPE 3.9: the straining factor is the sheet's, within these limits by method, and T has it in every row but these two.
+STRAINING = {1: (1000, 2000), 2: (750, 1000)}
+WITHOUT_T = (1, 21)
 # SCOPE 4.2: the kinds of which at most one case acts, by their group.
 GROUPS = {LR: 'roof', S: 'roof', R: 'roof', W: 'W', E: 'E', FA: 'Fa', DI: 'Di', WI: 'Wi'}
 
 
 class Sheet:
     def __init__(self, method=1, live=0, zone=0):
-        self.method, self.live, self.zone, self.ice = method, live, zone, 0
+        self.method, self.live, self.zone, self.ice, self.straining = method, live, zone, 0, 1000
         self.kind = {}
         self.effect = {}
         self.cap = {}
+
+    def factor(self, row, cols, kind):
+        if kind == T:
+            return 0 if row in WITHOUT_T else self.straining
+        return column_factor(cols, kind, self.live)
 
     def combos(self):
         """Every admissible combination: (row, {case: factor}, acting mask, low mask), by building them."""
@@ -93,7 +101,7 @@ class Sheet:
             choices, fluid = [], ()
             groups = {g: [] for g in GROUPS.values()}
             for c, k in sorted(self.kind.items()):
-                f = column_factor(cols, k, self.live)
+                f = self.factor(row, cols, k)
                 if not f:
                     continue
                 if k == D:
@@ -102,7 +110,7 @@ class Sheet:
                     fluid += ((c, f, False),)
                 elif k == HP:
                     choices.append([((c, f, False),), ((c, low, True),)])
-                elif k in (L, HV):
+                elif k in (L, HV, T):
                     choices.append([(), ((c, f, False),)])
                 else:
                     groups[GROUPS[k]].append((c, f, False))
@@ -134,20 +142,21 @@ class Sheet:
     def turned(self):
         """The sheet with the sign of every effect turned, SCOPE 4.7."""
         s = Sheet(self.method, self.live, self.zone)
-        s.ice, s.kind, s.cap = self.ice, dict(self.kind), dict(self.cap)
+        s.ice, s.straining, s.kind, s.cap = self.ice, self.straining, dict(self.kind), dict(self.cap)
         s.effect = {k: tuple(-x for x in v) for k, v in self.effect.items()}
         return s
 
     def saved(self):
         """The saved form, SCOPE 8.1."""
         out = [f(1, self.method, self.live, self.zone)] + [f(8, 1)] * self.ice
+        out += [f(9, word(self.straining))] * (self.straining != 1000)
         for c, k in sorted(self.kind.items()):
             out.append(f(2, c, k))
             out += [f(3, c, st, effects(*self.eff(c, st))) for st in range(16) if any(self.eff(c, st))]
         return b''.join(out + [f(5, st, caps(*c)) for st, c in sorted(self.cap.items())])
 
 
-LENGTHS = {1: 3, 2: 2, 3: 8, 4: 1, 5: 7, 6: 2, 7: 1, 8: 1}
+LENGTHS = {1: 3, 2: 2, 3: 8, 4: 1, 5: 7, 6: 2, 7: 1, 8: 1, 9: 2}
 
 
 def refusal(s, b):
@@ -163,7 +172,7 @@ def refusal(s, b):
     d = b[3:3 + n]
     checks = {
         1: lambda: [4 * (d[0] not in (1, 2)), 4 * (d[1] > 1), 4 * (d[2] > 2)],
-        2: lambda: [5 * (d[0] > 31), 7 * (not 1 <= d[1] <= 13), 11 * (d[0] in s.kind)],
+        2: lambda: [5 * (d[0] > 31), 7 * (not 1 <= d[1] <= 14), 11 * (d[0] in s.kind)],
         3: lambda: [5 * (d[0] > 31), 6 * (d[1] > 15)] + [9 * (abs(e) > 10000) for e in struct.unpack('>3h', d[2:])]
         + [12 * (d[0] not in s.kind)],
         4: lambda: [5 * (d[0] > 31), 12 * (d[0] not in s.kind)],
@@ -171,6 +180,7 @@ def refusal(s, b):
         6: lambda: [6 * (d[0] > 15), 8 * (d[1] > 2)],
         7: lambda: [6 * (d[0] > 15), 13 * (d[0] not in s.cap)],
         8: lambda: [4 * (d[0] > 1)],
+        9: lambda: [15 * (not STRAINING[s.method][0] <= d[0] << 8 | d[1] <= STRAINING[s.method][1])],
     }
     return next((x for x in checks[tag]() if x), 0)
 
@@ -197,6 +207,8 @@ def serve(s, b, rng):
         return s, bytes([0x86, 0, 34]) + struct.pack('>qBIIqBII', hi, r1, a1, l1, lo, r2, a2, l2)
     elif tag == 8:
         s.ice = d[0]
+    elif tag == 9:
+        s.straining, = struct.unpack('>H', d[:2])
     else:
         (num, r, a, l), den = s.utilisation(d[0], rng)
         return s, bytes([0x87, 0, 26]) + struct.pack('>qqBBII', num, den, int(num <= den), r, a, l)
@@ -206,6 +218,10 @@ def serve(s, b, rng):
 def f(tag, *body):
     d = b''.join(x if isinstance(x, bytes) else bytes([x]) for x in body)
     return bytes([tag]) + struct.pack('>H', len(d)) + d
+
+
+def word(n):
+    return struct.pack('>H', n)
 
 
 def effects(*v):
@@ -228,9 +244,9 @@ def is_pair(a, b):
     return (high, low) == (-lo, -hi)
 
 
-def sheet(cases, method=1, live=0, zone=0, ice=0):
+def sheet(cases, method=1, live=0, zone=0, ice=0, straining=1000):
     """Cases from place 0 on, with effects on N at station 0."""
-    out = [f(1, method, live, zone)] + [f(8, 1)] * ice
+    out = [f(1, method, live, zone)] + [f(8, 1)] * ice + [f(9, word(straining))] * (straining != 1000)
     for i, (k, n) in enumerate(cases):
         out += [f(2, i, k), f(3, i, 0, effects(n, 0, 0))]
     return out
@@ -339,6 +355,66 @@ FLUID_ROWS = [
      [({0: 100, 1: -40, 2: 100, 3: 100}, 235000, 36), ({4: 100, 5: 100}, 370000, 38)]),
 ]
 
+# Sheets with T worked by hand: cases, settings, maximum, minimum, and every row that reaches each.
+STRAINING_WORKED = [
+    # T alone: every row but 1 and 21 has it
+    ([(T, 100)], dict(), 100000, 0, range(2, 9), range(1, 9)),
+    ([(T, 100)], dict(straining=2000), 200000, 0, range(2, 9), range(1, 9)),
+    ([(T, -100)], dict(straining=1001), 0, -100100, range(1, 9), range(2, 9)),
+    ([(T, 100)], dict(method=2), 100000, 0, range(22, 31), range(21, 31)),
+    ([(T, 100)], dict(method=2, straining=750), 75000, 0, range(22, 31), range(21, 31)),
+    ([(T, 100)], dict(zone=1, ice=1, straining=1300), 130000, 0, [*range(2, 11), 13, 14, 15], [*range(1, 11), 13, 14, 15]),
+    ([(T, -100)], dict(method=2, zone=2, ice=1), 0, -100000, [*range(21, 31), *range(36, 44)], [*range(22, 31), *range(36, 44)]),
+    # row 1 or 21 against the rows with T
+    ([(D, 100), (T, 10)], dict(), 140000, 90000, [1], [7, 8]),
+    ([(D, 100), (T, 10)], dict(straining=2000), 140000, 90000, range(1, 7), [7, 8]),
+    ([(D, 100), (T, 30)], dict(straining=1500), 165000, 90000, range(2, 7), [7, 8]),
+    ([(D, 100), (T, 40)], dict(method=2, straining=750), 130000, 60000, range(22, 29), [29, 30]),
+    ([(D, -100), (T, -10)], dict(), -90000, -140000, [7, 8], [1]),
+    # T opposes and is left out, or adds on the other side
+    ([(D, 100), (L, 50), (T, -30)], dict(), 200000, 60000, [2], [7, 8]),
+    ([(D, 100), (L, 50), (T, -30)], dict(straining=2000), 200000, 30000, [2], [7, 8]),
+    ([(D, 100), (L, 50), (T, -40)], dict(method=2, straining=750), 150000, 30000, [22], [29, 30]),
+    # any subset of the T cases acts
+    ([(T, 50), (T, -20), (T, 30)], dict(), 80000, -20000, range(2, 9), range(2, 9)),
+    ([(T, 50), (T, -20), (T, 30)], dict(straining=1500), 120000, -30000, range(2, 9), range(2, 9)),
+    ([(T, 50), (T, -20), (T, 30)], dict(method=2, straining=900), 72000, -18000, range(22, 31), range(22, 31)),
+    # each row that governs alone, with T
+    ([(D, 100), (L, 50), (T, 40)], dict(), 240000, 90000, [2], [7, 8]),
+    ([(LR, 100), (L, 50), (T, 10)], dict(live=1, straining=2000), 205000, 0, [3], range(1, 9)),
+    ([(LR, 100), (W, 60), (T, 10)], dict(), 200000, 0, [4], range(1, 9)),
+    ([(W, 100), (L, 50), (T, 10)], dict(straining=1200), 162000, 0, [5], range(1, 9)),
+    ([(E, 100), (L, 50), (T, 10)], dict(), 160000, 0, [6], range(1, 9)),
+    ([(D, -100), (W, 300), (T, 20)], dict(straining=2000), 250000, -140000, [7], [1]),
+    ([(D, 100), (F, 10), (E, -300), (T, -20)], dict(), 154000, -230000, [1], [8]),
+    ([(LR, 100), (T, 10)], dict(method=2, straining=800), 108000, 0, [23], range(21, 31)),
+    ([(D, 100), (W, 100), (T, 10)], dict(method=2), 170000, 60000, [25], [29, 30]),
+    ([(D, 100), (E, 100), (T, 10)], dict(method=2, straining=800), 178000, 60000, [26], [29, 30]),
+    ([(L, 100), (LR, 100), (W, 100), (T, 10)], dict(method=2), 205000, 0, [27], range(21, 31)),
+    ([(L, 100), (S, 100), (E, 100), (T, 10)], dict(method=2, straining=750), 210000, 0, [28], range(21, 31)),
+    ([(D, -100), (W, 300), (T, 20)], dict(method=2, straining=900), 138000, -100000, [29], range(21, 29)),
+    ([(D, -100), (E, 300), (T, 20)], dict(method=2), 170000, -100000, [30], range(21, 29)),
+    # flood rows
+    ([(FA, 100), (L, 50), (T, 10)], dict(zone=1, straining=1500), 265000, 0, [9], range(1, 11)),
+    ([(D, -100), (FA, 100), (W, 100), (T, 10)], dict(zone=1, straining=2000), 230000, -140000, [10], [1]),
+    ([(FA, 100), (L, 50), (T, 10)], dict(zone=2), 160000, 0, [11], [*range(1, 9), 11, 12]),
+    ([(D, -100), (FA, 100), (W, 100), (T, 10)], dict(zone=2), 70000, -140000, [12], [1]),
+    ([(FA, 100), (T, 10)], dict(method=2, zone=1, straining=750), 157500, 0, range(31, 36), range(21, 36)),
+    ([(D, 10), (FA, 100), (W, 100), (T, 10)], dict(method=2, zone=1), 230000, 6000, [31], [29, 30, 35]),
+    ([(FA, 100), (L, 100), (LR, 100), (T, 10)], dict(method=2, zone=1, straining=750), 307500, 0, [33], range(21, 36)),
+    ([(D, -100), (FA, 100), (W, 100), (T, 10)], dict(method=2, zone=1), 160000, -100000, [35], [*range(21, 29), *range(31, 35)]),
+    ([(FA, 100), (T, 10)], dict(method=2, zone=2), 85000, 0, range(36, 41), [*range(21, 31), *range(36, 41)]),
+    ([(D, -100), (FA, 100), (W, 100), (T, 10)], dict(method=2, zone=2, straining=800), 83000, -100000, [40],
+     [*range(21, 29), *range(36, 40)]),
+    # ice rows
+    ([(D, 100), (L, 300), (S, 100), (DI, 100), (T, 10)], dict(ice=1, straining=2000), 690000, 90000, [13], [7, 8, 15]),
+    ([(DI, 100), (WI, 50), (L, 10), (T, 10)], dict(ice=1), 170000, 0, [14], [*range(1, 9), 13, 14, 15]),
+    ([(D, -100), (WI, 300), (T, 20)], dict(ice=1, straining=1100), 232000, -140000, [15], [1]),
+    ([(L, 100), (DI, 100), (T, 10)], dict(method=2, ice=1, straining=750), 177500, 0, [41], [*range(21, 31), 41, 42, 43]),
+    ([(DI, 100), (WI, 50), (S, 10), (T, 10)], dict(method=2, ice=1), 125000, 0, [42], [*range(21, 31), 41, 42, 43]),
+    ([(D, -100), (WI, 300), (T, 20)], dict(method=2, ice=1, straining=900), 168000, -100000, [43], [*range(21, 29), 41, 42]),
+]
+
 # Pairs worked by hand: cases, settings, maximum and minimum, and the same two with the sign of every effect turned.
 PAIRS_WORKED = [
     ([(D, 100), (L, 50), (W, -200), (W, 80)], dict(), (250000, -110000), (110000, -250000)),
@@ -348,6 +424,9 @@ PAIRS_WORKED = [
     ([(FA, 10), (W, 100)], dict(zone=1), (120000, 0), (0, -120000)),
     ([(L, 40), (E, 20), (S, 8)], dict(method=2), (46500, 0), (0, -46500)),
     ([(D, 100), (WI, -300)], dict(ice=1), (140000, -210000), (210000, -140000)),
+    ([(D, 100), (T, -30), (T, 50)], dict(straining=2000), (220000, 30000), (-30000, -220000)),
+    ([(T, 100), (T, -40)], dict(method=2, straining=750), (75000, -30000), (30000, -75000)),
+    ([(FA, 10), (W, 100), (T, 7)], dict(zone=1, straining=1500), (130500, 0), (0, -130500)),
     # equal cases, of which any may be named
     ([(S, 100), (R, 100), (W, -70), (W, -70)], dict(), (160000, -70000), (70000, -160000)),
     # effects at their limits
@@ -362,6 +441,11 @@ def value(rng):
 
 def capacity(rng):
     return rng.choice([1, 10000, rng.randint(1, 10000), rng.randint(1, 300)])
+
+
+def straining_factor(rng):
+    """One for tag 09; by the method it may be refused."""
+    return rng.choice([1000, 2000, 750, rng.randint(1000, 2000), rng.randint(750, 1000), rng.randint(700, 2100)])
 
 
 # Seeds of sheets that between them show a change of 50 thousandths in any factor, and of 100 in any blank, of the rows;
@@ -389,8 +473,8 @@ def showing(seed, ice=0):
     return out + [f(6, seed % 16, k) for k in range(3)]
 
 
-BAD = [f(0x7F), f(0), f(9, 0), f(8), f(8, 2), f(8, 1, 1), f(8, 255), f(4, 0, 0), f(1, 3, 0, 0), f(1, 0, 0, 0), f(1, 1, 2, 0), f(1, 2, 0, 3), f(4, 32), f(7, 16), f(6, 16, 3),
-       f(6, 0, 3), f(2, 0, 14), f(2, 32, 0), f(2, 31, 0), f(3, 0, 0, effects(10001, 0, 0)), f(3, 0, 0, effects(0, -10001, 0)),
+BAD = [f(0x7F), f(0), f(10, 0), f(8), f(8, 2), f(8, 1, 1), f(8, 255), f(9, 3), f(9, word(749)), f(9, word(2001)), f(9, word(0)), f(9, word(65535)),
+       f(9, word(0), 0), f(4, 0, 0), f(1, 3, 0, 0), f(1, 0, 0, 0), f(1, 1, 2, 0), f(1, 2, 0, 3), f(4, 32), f(7, 16), f(6, 16, 3), f(6, 0, 3), f(2, 0, 15), f(2, 32, 0), f(2, 31, 0), f(3, 0, 0, effects(10001, 0, 0)), f(3, 0, 0, effects(0, -10001, 0)),
        f(3, 0, 16, effects(0, 0, 10001)), f(3, 32, 16, effects(0, 0, 0)), f(3, 0, 0, effects(0, 0, -32768)), f(5, 0, caps(0, 1, 1)),
        f(5, 0, caps(1, 10001, 1)), f(5, 0, caps(1, 1, 65535)), f(5, 16, caps(0, 0, 0)), f(6, 0), f(7), f(3, 0, 0), f(2, 0, 1, 1),
        f(0x86, 0), f(0xFF, 0, 0)]
@@ -405,7 +489,7 @@ def edits(rng, filled, st, bad):
         out.append(f(4, c))
         del filled[c]
         if rng.random() < .7:
-            k = rng.randint(D, WI)
+            k = rng.randint(D, T)
             out.append(f(2, c, k))
             filled[c] = k
             if rng.random() < .7:
@@ -418,12 +502,14 @@ def edits(rng, filled, st, bad):
         out.append(next(bad))
         if rng.random() < .4:
             out.append(f(4, rng.randint(0, 31)) if rng.random() < .1 and not filled else
-                       f(2, rng.choice(list(filled)), rng.randint(D, WI)) if filled else f(4, 5))
+                       f(2, rng.choice(list(filled)), rng.randint(D, T)) if filled else f(4, 5))
         if len(filled) < 32:
             empty = rng.choice([c for c in range(32) if c not in filled])
             out.append(f(3, empty, 0, effects(1, 1, 1)) if rng.random() < .5 else f(4, empty))
     elif act < .92:
         out.append(f(8, rng.randint(0, 1)))
+    else:
+        out.append(f(9, word(straining_factor(rng))))
     return out
 
 
@@ -441,13 +527,14 @@ def generate(rng, looks=185):
     while seen < looks:
         method, live, zone = turn % 2 + 1, turn // 2 % 2, turn // 4 % 3
         turn += 1
-        out += [f(1, method, live, zone)] + [f(8, 1)] * (turn // 12 % 2)
+        out += [f(1, method, live, zone)] + [f(8, 1)] * (turn // 12 % 2) + [f(9, word(straining_factor(rng)))] * (turn % 3 > 0)
         filled = {}
         stations = rng.sample(range(16), 2) if turn % 3 else [0, 15]
         n = rng.randint(0, 7) if turn % 4 else 7
-        kinds = [(turn + i) % WI + 1 for i in range(n)] if turn % 2 else [rng.randint(D, WI) for _ in range(n)]
-        if rng.random() < .3:  # several F cases
-            kinds[:3] = [F] * min(n, 3)
+        kinds = [(turn + i) % T + 1 for i in range(n)] if turn % 2 else [rng.randint(D, T) for _ in range(n)]
+        several = rng.random()
+        if several < .5:
+            kinds[:3] = [F if several < .3 else T] * min(n, 3)
         places = rng.sample(range(32), n) if turn % 5 else [31 - i for i in range(n)]
         for c, k in zip(places, kinds):
             out.append(f(2, c, k))
@@ -470,10 +557,10 @@ def generate(rng, looks=185):
 
 
 def before_any_settings():
-    """Fields for a sheet that no tag 01 has set: method 1, live option 0, zone 0, ice off. Option 1 would halve L in row 3, zone 1 or 2
-    would let Fa act, ice would let Di and Wi act, and method 2 has other rows."""
+    """Fields for a sheet that no tag 01 has set: method 1, live option 0, zone 0, ice off, straining factor 1000. Option 1 would halve L
+    in row 3, zone 1 or 2 would let Fa act, ice would let Di and Wi act, another factor would show on T, and method 2 has other rows."""
     out = [f(6, 0, 0), f(7, 0)]
-    for c, (k, e) in enumerate([(D, (10, -20, 0)), (L, (300, 50, -7)), (LR, (200, 40, 0)), (FA, (500, -900, 30)), (W, (20, -30, 0)),
+    for c, (k, e) in enumerate([(D, (10, -20, 0)), (L, (300, 50, -7)), (LR, (200, 40, 0)), (FA, (500, -900, 30)), (T, (20, -30, 0)),
                                 (DI, (900, 800, -60)), (WI, (-700, -600, 50))]):
         out += [f(2, c, k), f(3, c, 3, effects(*e))]
     return out + [f(5, 3, caps(700, 800, 900))] + [f(6, 3, k) for k in range(3)] + [f(7, 3)]
@@ -484,10 +571,10 @@ TOGETHER = [[D, W, W], [D, E, E], [D, FA, FA, W], [LR, S, R], [D, LR, LR, S, S, 
 TOGETHER_ICE = [[D, DI, DI], [D, WI, WI], [DI, DI, WI, WI, W, FA], [L, S, S, R, DI, DI], [F, LR, S, WI, WI, E]]
 
 
-def together(ice=0):
+def together(ice=0, settings=((1, 0), (1, 1), (1, 2), (2, 0), (2, 1), (2, 2)), sets=TOGETHER):
     out = []
-    for method, zone in [(1, 0), (1, 1), (1, 2), (2, 0), (2, 1), (2, 2)]:
-        for kinds in TOGETHER_ICE if ice else TOGETHER:
+    for method, zone in settings:
+        for kinds in TOGETHER_ICE if ice else sets:
             out += [f(1, method, zone % 2, zone)] + [f(8, 1)] * ice
             for c, k in enumerate(kinds):
                 v = 100 + 10 * c
@@ -559,6 +646,55 @@ def ice_switch():
     assert s.saved().startswith(bytes.fromhex('010003020101 08000101 020002030D 0300080300FF9C00000009 020002070C'))
     again = fields_of(s.saved())
     return out + again + looks + [f(1, 1, 0, 0), f(2, 3, L)] + again + looks + again[:1] + again[2:] + looks
+
+
+def straining_sheets():
+    """STRAINING_WORKED as fields, each with its look."""
+    return [sheet(cases, **how) + [f(6, 0, 0)] for cases, how, *_ in STRAINING_WORKED]
+
+
+def straining_set():
+    """Tag 09: a look goes by the factor in force when it is made, whatever it was when the cases or their effects were set; a factor
+    outside its method's range and a wrong length leave it; tag 08 leaves it and it leaves ice; tag 01 sets 1000. A saved sheet, read on
+    another one, is that sheet."""
+    looks = [f(6, 0, k) for k in range(3)] + [f(7, 0)]
+    made = [f(2, 0, D), f(2, 1, T), f(2, 31, T), f(2, 30, WI)]
+    for c, e in ((0, (100, -40, 7)), (1, (60, 20, -9)), (31, (-35, 80, 11)), (30, (33, -5, 2))):
+        made.append(f(3, c, 0, effects(*e)))
+    made.append(f(5, 0, caps(270, 90, 70)))
+    refused = lambda *factors: [f(9, word(n)) for n in factors] + [f(9), f(9, 3), f(9, 3, 232, 0)]
+    out = [f(1, 1, 0, 0)] + made + looks
+    for b in ([f(9, word(2000))], refused(999, 2001, 749, 750, 0, 65535), [f(9, word(1500))], [f(3, 1, 0, effects(61, 19, -8))],
+              [f(8, 1)], [f(9, word(1250))], [f(8, 0)], [f(9, word(1000))], [f(9, word(1600)), f(8, 1), f(1, 1, 0, 3)]):
+        out += b + looks
+    out += [f(1, 1, 0, 0)] + looks[:1] + made + looks + [f(1, 2, 1, 2), f(9, word(750))] + made + looks
+    for b in (refused(749, 1001, 2000, 0, 65535), [f(9, word(1000))], [f(9, word(999)), f(8, 1)], [f(4, 31)], [f(2, 31, T)]):
+        out += b + looks
+    s = Sheet(2, 1, 1)
+    s.ice, s.straining, s.kind, s.cap = 1, 750, {3: T, 7: DI, 8: T}, {0: (90, 80, 70)}
+    s.effect = {(3, 0): (-100, 0, 9), (7, 0): (50, 60, 70), (8, 0): (0, 0, -20), (8, 5): (0, 0, 0)}
+    assert s.saved().startswith(bytes.fromhex('010003020101 08000101 09000202EE 020002030E 0300080300FF9C00000009 020002070C'))
+    again = fields_of(s.saved())
+    swapped = again[:1] + again[2:3] + again[1:2] + again[3:]
+    return out + again + looks + [f(1, 1, 0, 0), f(9, word(1700))] + swapped + looks + again[:2] + again[3:] + looks
+
+
+def straining_utilisations():
+    """The verdict turns with the factor; T cases that oppose on one component and add on another, left out or acting by the factor."""
+    out = [f(1, 1, 0, 0), f(2, 0, T), f(3, 0, 0, effects(100, 0, 0)), f(5, 0, caps(150, 10, 10)), f(7, 0)]
+    for n in (1500, 1501, 2000):
+        out += [f(9, word(n)), f(7, 0)]
+    out += [f(1, 2, 0, 0), f(2, 0, T), f(3, 0, 0, effects(0, -100, 0)), f(5, 0, caps(10, 75, 10)), f(7, 0)]
+    for n in (751, 750, 1000):
+        out += [f(9, word(n)), f(7, 0)]
+    for method, factors in ((1, (1000, 1700, 2000)), (2, (1000, 750))):
+        out += [f(1, method, 0, 0)]
+        for c, k, e in ((0, E, (100, 50, 0)), (4, T, (-10, 20, 3)), (9, T, (-20, 15, -6)), (31, D, (5, -8, 2))):
+            out += [f(2, c, k), f(3, c, 11, effects(*e))]
+        out.append(f(5, 11, caps(130, 120, 90)))
+        for n in factors:
+            out += [f(9, word(n))] + [f(6, 11, k) for k in range(3)] + [f(7, 11)]
+    return out
 
 
 def fields_of(b):
@@ -637,16 +773,38 @@ def check_fluid():
     assert found == due, (found, due)
 
 
+def rows_reaching(s, sign):
+    """The greatest N at station 0 (sign 1) or the least (-1), and the rows with a combination that reaches it."""
+    every = [(sign * sum(fa * s.eff(c, 0)[0] for c, fa, _ in t), r) for r, t, _, _ in s.combos()]
+    best = max(every)[0]
+    return sign * best, {r for x, r in every if x == best}
+
+
+def check_straining():
+    """The sheets with T give the numbers worked by hand, in these rows."""
+    for fields, (cases, how, hi, lo, rows_hi, rows_lo) in zip(straining_sheets(), STRAINING_WORKED):
+        s = Sheet()
+        for b in fields[:-1]:
+            s, a = serve(s, b, None)
+            assert a == b'\x80\0\0', (b, a)
+        found = rows_reaching(s, 1), rows_reaching(s, -1)
+        assert found == ((hi, set(rows_hi)), (lo, set(rows_lo))), (cases, how, found)
+
+
 def main():
     here = os.path.dirname(os.path.abspath(__file__))
     rng = random.Random(20)
     check_worked(rng)
     check_ice(rng)
     check_fluid()
+    check_straining()
     # The last readings get a 3, where a service stops: a length above 60,000, and a field that is cut short.
     ice = [b for fields in ice_sheets() for b in fields] + ice_switch()
     fluid = [b for fields in fluid_sheets() for b in fields] + fluid_rows() + fluid_utilisations()
-    fields = before_any_settings() + generate(rng) + together() + saved_forms() + ice + fluid + long_fields() + [bytes.fromhex('01000301')]
+    straining = [b for fields in straining_sheets() for b in fields] + straining_set() + straining_utilisations()
+    groups = together(settings=[(1, 1), (2, 1), (2, 2)], sets=TOGETHER[4:])
+    fields = before_any_settings() + BAD + generate(rng) + groups + saved_forms() + ice + fluid + straining
+    fields += long_fields() + [bytes.fromhex('01000301')]
     s, answers = Sheet(), []
     for b in fields:
         s, a = serve(s, b, rng)
@@ -658,7 +816,7 @@ def main():
         o.write(raw)
     tags = [a[0] for a in answers]
     print(len(fields), 'readings', len(raw), 'bytes', {hex(t): tags.count(t) for t in sorted(set(tags))},
-          'refusals', {n: sum(1 for a in answers if a[0] == 0x81 and a[3] == n) for n in range(1, 15)})
+          'refusals', {n: sum(1 for a in answers if a[0] == 0x81 and a[3] == n) for n in range(1, 16)})
 
 
 if __name__ == '__main__':

@@ -7,16 +7,16 @@ import random
 import checks
 import model as m
 from checks import TESTS, Failed, expect, run
-from model import D, WI, effects, f
+from model import D, STRAINING, T, effects, f
 
 SHEETS = 200
 
 
 def random_sheet(rng, most, count):
     """Up to so many load cases of so many kinds, with effects at three stations, two of which have capacities."""
-    kinds = rng.sample(range(D, WI + 1), count)
+    kinds = rng.sample(range(D, T + 1), count)
     s = m.Sheet(rng.randint(1, 2), rng.randint(0, 1), rng.randint(0, 2))
-    s.ice, stations = rng.randint(0, 1), rng.sample(range(16), 3)
+    s.ice, s.straining, stations = rng.randint(0, 1), rng.randint(*STRAINING[s.method]), rng.sample(range(16), 3)
     s.kind = {c: rng.choice(kinds) for c in rng.sample(range(32), rng.randint(0, most))}
     s.effect = {(c, st): tuple(m.value(rng) for _ in range(3)) for c in s.kind for st in stations}
     s.cap = {st: tuple(m.capacity(rng) for _ in range(3)) for st in stations[:2]}
@@ -59,7 +59,7 @@ def every_sheet_keeps_the_law(most, kinds, binary):
     expect(not looks and got.status == 0, '%d answers too many, status %d' % (len(looks), got.status))
 
 
-for most, kinds in ((8, 13), (12, 2), (32, 13)):
+for most, kinds in ((8, 14), (12, 2), (32, 14)):
     TESTS.append(('every effect turned, the extremes change places and signs: %d sheets of up to %d load cases of %d kinds'
                   % (SHEETS, most, kinds), functools.partial(every_sheet_keeps_the_law, most, kinds)))
 

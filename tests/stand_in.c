@@ -96,8 +96,8 @@ static void finish(int cut) {
 }
 
 static void answer(const byte *b, size_t length) {
-    static const byte lengths[] = {0, 3, 2, 8, 1, 7, 2, 1};
-    if (b[0] < 1 || b[0] > 7) refuse(1);
+    static const byte lengths[] = {0, 3, 2, 8, 1, 7, 2, 1, 1, 2};
+    if (b[0] < 1 || b[0] > 9) refuse(1);
     else if (length != lengths[b[0]]) refuse(2);
     else if (b[0] == 6) add(look, sizeof look);
     else add("\x80\0", 3);

@@ -58,7 +58,7 @@ static inline const char *frames_refusal_text(uint8_t refusal)
     case 4: return "no such method, live option, zone or ice switch";
     case 5: return "the case is not 0 to 31";
     case 6: return "the station is not 0 to 15";
-    case 7: return "the kind is not 1 to 13";
+    case 7: return "the kind is not 1 to 14";
     case 8: return "the component is not 0 to 2";
     case 9: return "an effect is not -10,000 to 10,000";
     case 10: return "a capacity is not 1 to 10,000";
@@ -66,6 +66,7 @@ static inline const char *frames_refusal_text(uint8_t refusal)
     case 12: return "the place holds no load case";
     case 13: return "the station has no capacities";
     case 14: return "the output is too short";
+    case 15: return "the straining factor is not 1000 to 2000 in method 1 or 750 to 1000 in method 2";
     default: return NULL;
     }
 }

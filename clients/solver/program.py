@@ -113,7 +113,7 @@ def tolerance(program: Program) -> int:
     So every basis has determinant 1 or -1: vertices are 0/1, and reduced costs are integers in the program's unit. On near ties
     GLPK was seen to find a reduced cost of 1e-10 of the greatest coefficient, CBC a smaller one. Below 1e9 a reduced cost other
     than 0 is at least ten times that, so no better vertex is missed and the tolerance is 0. So it is for every extreme: factors are
-    multiples of 25, and 32 cases * 10,000 * 1000 / 25 is 1.3e7. From 1e9 on, two points differ in at most 66 variables, each
+    multiples of 25, and 32 cases * 10,000 * 2000 / 25 is 2.6e7. From 1e9 on, two points differ in at most 66 variables, each
     wrong by less than 1e-9 of the greatest coefficient: together less than 1e-7 of it.
     """
     greatest = greatest_coefficient(program)

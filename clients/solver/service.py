@@ -35,8 +35,8 @@ class Answers:
 
 
 def fields_of(sheet: Sheet) -> list[bytes]:
-    """The fields that make the sheet: settings, ice, cases, effects and capacities."""
-    made = [field(1, bytes([sheet.method, sheet.live, sheet.zone])), field(8, bytes([sheet.ice]))]
+    """The fields that make the sheet: settings, ice, the straining factor, cases, effects and capacities."""
+    made = [field(1, bytes([sheet.method, sheet.live, sheet.zone])), field(8, bytes([sheet.ice])), field(9, numbers((sheet.straining,)))]
     for k, case in sheet.cases.items():
         made.append(field(2, bytes([k, case.kind])))
         made.append(field(3, bytes([k, sheet.station]) + numbers(case.effects)))

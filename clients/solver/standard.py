@@ -21,16 +21,20 @@ class Kind(IntEnum):
     FA = 11
     DI = 12
     WI = 13
+    T = 14
 
 
 STRENGTH, ALLOWABLE = 1, 2
 ALWAYS_ACTING = frozenset({Kind.D, Kind.HP})
 ALL_OR_NONE = frozenset({Kind.F})
-ANY_SUBSET = frozenset({Kind.L, Kind.HV})
+ANY_SUBSET = frozenset({Kind.L, Kind.HV, Kind.T})
 AT_MOST_ONE = (
     frozenset({Kind.LR, Kind.S, Kind.R}), frozenset({Kind.W}), frozenset({Kind.E}), frozenset({Kind.FA}), frozenset({Kind.DI}),
     frozenset({Kind.WI}),
 )
+
+STRAINING = {STRENGTH: (1000, 2000), ALLOWABLE: (750, 1000)}  # the least and the greatest straining factor
+ROWS_WITHOUT_T = frozenset({1, 21})
 
 Factors = dict[Kind, int]
 
@@ -49,6 +53,7 @@ class Sheet:
     live: int
     zone: int
     ice: int
+    straining: int
     cases: dict[int, Case]
     station: int
     capacities: tuple[int, int, int]
@@ -62,7 +67,7 @@ class Combination:
 
 
 def line(d: int, f: int, l: int = 0, roof: int = 0, w: int = 0, e: int = 0, h: int = 0, snow: int = 0) -> Factors:
-    """A line of the standard. `roof` is the factor of Lr, S and R, `snow` that of S where S alone may act."""
+    """A line of the standard, without T. `roof` is the factor of Lr, S and R, `snow` that of S where S alone may act."""
     return {
         Kind.D: d, Kind.F: f, Kind.HP: h, Kind.HV: h, Kind.L: l, Kind.LR: roof, Kind.S: roof or snow, Kind.R: roof,
         Kind.W: w, Kind.E: e, Kind.FA: 0, Kind.DI: 0, Kind.WI: 0,
@@ -129,7 +134,8 @@ def snow_alone(factor: int) -> Factors:
 
 def open_rows(sheet: Sheet) -> dict[int, Factors]:
     plain = plain_rows(sheet)
-    return plain | flood_rows(sheet, plain) | ice_rows(sheet, plain)
+    rows = plain | flood_rows(sheet, plain) | ice_rows(sheet, plain)
+    return {row: factors | {Kind.T: 0 if row in ROWS_WITHOUT_T else sheet.straining} for row, factors in rows.items()}
 
 
 def low_factor(sheet: Sheet) -> int:

@@ -33,7 +33,8 @@ fn main() -> Result<(), Refusal> {
 
     let show = |what: String, row: Row, acting: u32, low: u32| {
         println!("{what}");
-        println!("    {}: {}", row.name(), row.formula(settings.live));
+        let formula = row.formula(settings.live, sheet.straining());
+        println!("    {}: {formula}", row.name());
         println!("    acting: {}; low factor: {}", names(acting), names(low));
     };
     let axial = sheet.extremes(FOOT, Component::N)?;

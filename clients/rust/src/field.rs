@@ -35,8 +35,8 @@ pub enum Zone {
     Noncoastal = 2,
 }
 
-/// What a sheet sets for all its combinations when it starts. The default is that of a fresh sheet. Ice is switched apart
-/// ([`Field::SetIce`]) and is off at the start.
+/// What a sheet sets for all its combinations when it starts. The default is that of a fresh sheet. Two more are set
+/// apart: ice ([`Field::SetIce`]), off at the start, and the straining factor ([`Field::SetStraining`]), 1000 at the start.
 #[derive(Clone, Copy, Debug, Default, PartialEq, Eq, Hash)]
 pub struct Settings {
     /// Strength or allowable stress.
@@ -77,6 +77,8 @@ pub enum Kind {
     Ice = 12,
     /// Wi, wind on ice: at most one case acts, where ice is on.
     WindOnIce = 13,
+    /// T, self-straining load: each case acts or does not, at the straining factor of the sheet.
+    SelfStraining = 14,
 }
 
 /// A component of the effects at a station.
@@ -109,7 +111,7 @@ macro_rules! numbered {
 numbered!(Method: Strength Allowable);
 numbered!(LiveOption: Full Half);
 numbered!(Zone: NoFlood Coastal Noncoastal);
-numbered!(Kind: Dead Fluid EarthPermanent EarthOther Live RoofLive Snow Rain Wind Earthquake Flood Ice WindOnIce);
+numbered!(Kind: Dead Fluid EarthPermanent EarthOther Live RoofLive Snow Rain Wind Earthquake Flood Ice WindOnIce SelfStraining);
 numbered!(Component: N My Mz);
 
 /// The effects of a case at a station: N in tenths of a kN, moments in tenths of a kN m.
@@ -184,6 +186,11 @@ pub enum Field {
         /// Whether they are open.
         on: bool,
     },
+    /// Sets the load factor of T for the whole sheet.
+    SetStraining {
+        /// In thousandths: 1000 to 2000 in strength design, 750 to 1000 in allowable stress design.
+        factor: u16,
+    },
 }
 
 impl Field {
@@ -228,6 +235,9 @@ impl Field {
             },
             (7, &[station]) => Field::Utilisation { station },
             (8, &[on @ (0 | 1)]) => Field::SetIce { on: on == 1 },
+            (9, &[high, low]) => Field::SetStraining {
+                factor: u16::from_be_bytes([high, low]),
+            },
             _ => return None,
         };
         Some((field, rest))
@@ -257,6 +267,7 @@ impl Field {
             Field::Extremes { station, component } => Encoded::new(6, &[station, component as u8]),
             Field::Utilisation { station } => Encoded::new(7, &[station]),
             Field::SetIce { on } => Encoded::new(8, &[u8::from(on)]),
+            Field::SetStraining { factor } => Encoded::new(9, &factor.to_be_bytes()),
         }
     }
 }

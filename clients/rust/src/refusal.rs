@@ -33,11 +33,13 @@ pub enum Refusal {
     NoCapacity = 13,
     /// The output has too few bytes for the answers, or for the saved sheet.
     OutputTooShort = 14,
+    /// A straining factor outside the limits of the sheet's method.
+    StrainingOutside = 15,
 }
 
 impl Refusal {
     /// Every refusal, by rising number.
-    pub const ALL: [Refusal; 14] = [
+    pub const ALL: [Refusal; 15] = [
         Refusal::UnknownTag,
         Refusal::WrongLength,
         Refusal::Cut,
@@ -52,9 +54,10 @@ impl Refusal {
         Refusal::PlaceEmpty,
         Refusal::NoCapacity,
         Refusal::OutputTooShort,
+        Refusal::StrainingOutside,
     ];
 
-    /// The library's number, 1 to 14.
+    /// The library's number, 1 to 15.
     pub fn number(self) -> u8 {
         self as u8
     }
@@ -74,7 +77,7 @@ impl Refusal {
             Refusal::SettingsOutside => "no such method, live option, zone or ice switch",
             Refusal::CaseOutside => "the case is not 0 to 31",
             Refusal::StationOutside => "the station is not 0 to 15",
-            Refusal::KindOutside => "the kind is not 1 to 13",
+            Refusal::KindOutside => "the kind is not 1 to 14",
             Refusal::ComponentOutside => "the component is not 0 to 2",
             Refusal::EffectOutside => "an effect is not -10,000 to 10,000",
             Refusal::CapacityOutside => "a capacity is not 1 to 10,000",
@@ -82,6 +85,9 @@ impl Refusal {
             Refusal::PlaceEmpty => "the place holds no load case",
             Refusal::NoCapacity => "the station has no capacities",
             Refusal::OutputTooShort => "the output is too short",
+            Refusal::StrainingOutside => {
+                "the straining factor is not 1000 to 2000 in method 1 or 750 to 1000 in method 2"
+            }
         }
     }
 }

@@ -41,12 +41,13 @@ impl Sheet {
         Ok(sheet)
     }
 
-    /// The sheet as bytes, at most 5,962. Equal sheets have equal bytes.
+    /// The sheet as bytes, at most 5,967. Equal sheets have equal bytes.
     pub fn save(&self) -> &[u8] {
         &self.saved[..self.len]
     }
 
-    /// The fields that make the sheet: its settings, ice where it is on, each case with its effects other than 0, and the capacities.
+    /// The fields that make the sheet: its settings, ice where it is on, the straining factor where it is not 1000, each case with its
+    /// effects other than 0, and the capacities.
     pub fn fields(&self) -> impl Iterator<Item = Field> + '_ {
         let mut rest = self.save();
         std::iter::from_fn(move || {
@@ -71,6 +72,15 @@ impl Sheet {
     pub fn ice(&self) -> bool {
         self.fields()
             .any(|field| matches!(field, Field::SetIce { on: true }))
+    }
+
+    /// The straining factor: the load factor of T, in thousandths.
+    pub fn straining(&self) -> u16 {
+        let set = self.fields().find_map(|field| match field {
+            Field::SetStraining { factor } => Some(factor),
+            _ => None,
+        });
+        set.unwrap_or(1000)
     }
 
     /// The kind of the case in a place. `None` where the place is empty or there is no such place.
@@ -112,6 +122,16 @@ impl Sheet {
     pub fn set_ice(&mut self, on: bool) {
         let set = self.edit(Field::SetIce { on });
         set.expect("the library has both settings of the switch");
+    }
+
+    /// Sets the straining factor, the load factor of T in thousandths, for the whole sheet: 1000 to 2000 in strength design, 750 to
+    /// 1000 in allowable stress design. A fresh sheet has 1000. A look goes by the factor in force when it is made.
+    ///
+    /// # Errors
+    ///
+    /// [`Refusal::StrainingOutside`].
+    pub fn set_straining(&mut self, factor: u16) -> Result<(), Refusal> {
+        self.edit(Field::SetStraining { factor })
     }
 
     /// Puts a case in an empty place; its effects are 0.
@@ -252,8 +272,8 @@ impl PartialEq for Sheet {
 impl Eq for Sheet {}
 
 impl fmt::Debug for Sheet {
-    /// The settings; whether ice is on; by place, the kind of the case and by station its effects other than 0; by station, the
-    /// capacities.
+    /// The settings; whether ice is on; the straining factor; by place, the kind of the case and by station its effects other than 0;
+    /// by station, the capacities.
     fn fmt(&self, f: &mut fmt::Formatter<'_>) -> fmt::Result {
         let mut cases = BTreeMap::new();
         let mut stations = BTreeMap::new();
@@ -282,6 +302,7 @@ impl fmt::Debug for Sheet {
         f.debug_struct("Sheet")
             .field("settings", &self.settings())
             .field("ice", &self.ice())
+            .field("straining", &self.straining())
             .field("cases", &cases)
             .field("capacities", &stations)
             .finish()

@@ -19,8 +19,14 @@ const SCOPE: &str = include_str!("../../../docs/SCOPE.md");
 const HEADER: &str = include_str!("../../c/frames.h");
 
 /// The symbols that a formula has for the kinds, from kind 1 on.
-const SYMBOLS: [&str; 13] = [
-    "D", "F", "H", "H", "L", "Lr", "S", "R", "W", "E", "Fa", "Di", "Wi",
+const SYMBOLS: [&str; 14] = [
+    "D", "F", "H", "H", "L", "Lr", "S", "R", "W", "E", "Fa", "Di", "Wi", "T",
+];
+
+/// Straining factors within the limits of each method.
+const STRAINING: [(Method, [u16; 3]); 2] = [
+    (Method::Strength, [1000, 1234, 2000]),
+    (Method::Allowable, [750, 890, 1000]),
 ];
 
 /// The lines of the first table under a heading that start with a number, as their cells.
@@ -77,7 +83,7 @@ fn factors(formula: &str) -> BTreeMap<&str, i64> {
     found
 }
 
-/// Every choice of the settings, as the sheet of the reference.
+/// Every choice of the settings but the straining factor, as the sheet of the reference.
 fn settings() -> impl Iterator<Item = (LiveOption, reference::Sheet)> {
     let mut all = Vec::new();
     for method in Method::ALL {
@@ -97,14 +103,26 @@ fn settings() -> impl Iterator<Item = (LiveOption, reference::Sheet)> {
     all.into_iter()
 }
 
+/// Every choice of the settings, with some straining factors.
+fn strained() -> impl Iterator<Item = (LiveOption, reference::Sheet)> {
+    settings().flat_map(|(live, sheet)| {
+        let (_, factors) = STRAINING[usize::from(sheet.method) - 1];
+        factors.map(|straining| {
+            let mut sheet = sheet.clone();
+            sheet.straining = straining;
+            (live, sheet)
+        })
+    })
+}
+
 #[test]
 fn formulas_have_the_factors_of_the_rows() {
     let mut seen = Vec::new();
-    for (live, sheet) in settings() {
+    for (live, sheet) in strained() {
         for expected in open_rows(&sheet) {
             let row = Row::from_number(expected.number).unwrap();
             seen.push(row);
-            let formula = row.formula(live);
+            let formula = row.formula(live, sheet.straining);
             let found = factors(&formula);
             for (kind, symbol) in Kind::ALL.iter().zip(SYMBOLS) {
                 let factor = found.get(symbol).copied().unwrap_or(0);
@@ -134,13 +152,14 @@ fn rows_of_the_fields_document() {
         };
         assert_eq!(row_of(number), row);
         assert_eq!(name, row.name());
-        assert_eq!(formula, row.formula(LiveOption::Full));
+        let formula = formula.replace("kT", "1.2T");
+        assert_eq!(formula, row.formula(LiveOption::Full, 1200));
         let halved = match half {
-            "" => formula.to_string(),
+            "" => formula.clone(),
             half => formula.replacen(" L ", &format!(" {half} "), 1),
         };
-        assert_eq!(halved, row.formula(LiveOption::Half));
-        assert_eq!(half == "0.5L", row.formula(LiveOption::Half) != formula);
+        assert_eq!(halved, row.formula(LiveOption::Half, 1200));
+        assert_eq!(half == "0.5L", halved != formula);
         assert_eq!(low, row.low_term().unwrap_or(""));
         assert_eq!(open_in, opened_by(row));
     }
@@ -178,9 +197,36 @@ fn rows_of_the_scope_document() {
         let row = row_of(cells[0]);
         assert_eq!(cells[1], row.name());
         for live in LiveOption::ALL {
-            let formula = row.formula(*live);
-            let expected = scope_factors(&cells[2..], *live);
+            let formula = row.formula(*live, 1700);
+            let mut expected = scope_factors(&cells[2..], *live);
+            if !rows_of("1, 21").contains(&row) {
+                expected.insert("T", 1700);
+            }
             assert_eq!(factors(&formula), expected, "{formula}");
+        }
+    }
+}
+
+/// SCOPE 3.9: the rows without T, and the limits of the straining factor by method, which the reference goes by.
+#[test]
+fn straining_of_the_scope_document() {
+    let (_, section) = SCOPE.split_once("\n### 3.9 ").unwrap();
+    let (section, _) = section.split_once("\n## ").unwrap();
+    assert!(section.contains("in every row but 1 and 21"));
+    let lines = table(SCOPE, "\n### 3.9 ");
+    assert_eq!(lines.len(), Method::ALL.len());
+    for (method, cells) in Method::ALL.iter().zip(lines) {
+        assert_eq!(cells[0].parse(), Ok(*method as u8));
+        let limits: Vec<u16> = cells[1].split(" to ").map(|n| n.parse().unwrap()).collect();
+        for factor in 0..=u16::MAX {
+            let mut sheet = reference::Sheet::fresh();
+            sheet.method = *method as u8;
+            let [high, low] = factor.to_be_bytes();
+            let accepted = matches!(
+                reference::read(&mut sheet, &[9, 0, 2, high, low]).0,
+                reference::Answer::Accepted
+            );
+            assert_eq!(accepted, limits[0] <= factor && factor <= limits[1]);
         }
     }
 }
@@ -223,7 +269,7 @@ fn flood_and_ice_rows_of_the_scope_document() {
         for (row, plain) in rows_of(rows).into_iter().zip(rows_of(plain_rows)) {
             assert_eq!(row.name(), format!("{item} on {}", plain.name()));
             for live in LiveOption::ALL {
-                let formula = plain.formula(*live);
+                let formula = plain.formula(*live, 1100);
                 let mut expected = factors(&formula);
                 for change in changes.split(", ") {
                     match change.split_once(' ').unwrap() {
@@ -231,7 +277,7 @@ fn flood_and_ice_rows_of_the_scope_document() {
                         (symbol, factor) => expected.insert(symbol, factor.parse().unwrap()),
                     };
                 }
-                assert_eq!(factors(&row.formula(*live)), expected);
+                assert_eq!(factors(&row.formula(*live, 1100)), expected);
             }
             seen.push(row);
         }
@@ -260,11 +306,12 @@ fn rows_open(sheet: &reference::Sheet) -> Vec<Row> {
     numbers.map(|n| Row::from_number(n).unwrap()).collect()
 }
 
-/// Every place with effects at every station, capacities at every station, and ice.
+/// Every place with effects at every station, capacities at every station, ice, and a straining factor other than 1000.
 #[test]
 fn greatest_size_of_a_saved_sheet() {
     let mut sheet = reference::Sheet::fresh();
     sheet.ice = true;
+    sheet.straining = 2000;
     let case = reference::Case {
         kind: Kind::Live as u8,
         effects: [[0, 0, 1]; reference::STATIONS],

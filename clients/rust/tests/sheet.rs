@@ -209,12 +209,140 @@ fn ice_is_switched_and_saved() {
     assert_eq!(s, without);
 }
 
+/// A sheet with a straining factor, and cases on N at station 0.
+fn strained(method: Method, factor: u16, cases: &[(Kind, i16)]) -> Sheet {
+    let settings = Settings {
+        method,
+        ..Settings::default()
+    };
+    let mut sheet = sheet(settings, cases);
+    sheet.set_straining(factor).unwrap();
+    sheet
+}
+
+#[test]
+fn self_straining_load() {
+    use Method::{Allowable, Strength};
+    let greatest = |method, factor, cases: &[(Kind, i16)]| {
+        let sheet = strained(method, factor, cases);
+        sheet.extremes(0, Component::N).unwrap().maximum
+    };
+    let alone = [(Kind::SelfStraining, 100)];
+    let x = greatest(Strength, 1000, &alone);
+    assert_eq!((x.value, x.acting), (100_000, 1));
+    assert_ne!(x.row.number(), 1);
+    assert_eq!(greatest(Strength, 2000, &alone).value, 200_000);
+    let x = greatest(Allowable, 750, &alone);
+    assert_eq!((x.value, x.acting), (75_000, 1));
+    assert_ne!(x.row.number(), 21);
+    let dead = [(Kind::Dead, 100), (Kind::SelfStraining, 10)];
+    let x = greatest(Strength, 1000, &dead);
+    assert_eq!((x.value, x.row.number(), x.acting), (140_000, 1, 0b01));
+    let opposing = [(Kind::Live, 50), (Kind::SelfStraining, -30)];
+    let x = greatest(Strength, 1500, &opposing);
+    assert_eq!((x.value, x.row.number(), x.acting), (80_000, 2, 0b01));
+    let several = [50, -20, 30].map(|n| (Kind::SelfStraining, n));
+    let sheet = strained(Strength, 1500, &several);
+    let x = sheet.extremes(0, Component::N).unwrap();
+    assert_eq!((x.maximum.value, x.maximum.acting), (120_000, 0b101));
+    assert_eq!((x.minimum.value, x.minimum.acting), (-30_000, 0b010));
+}
+
+#[test]
+fn straining_in_flood_and_ice_rows() {
+    let flood = [
+        (Kind::Dead, -100),
+        (Kind::Flood, 100),
+        (Kind::Wind, 100),
+        (Kind::SelfStraining, 10),
+    ];
+    let mut s = sheet(zone(Zone::Coastal), &flood);
+    s.set_straining(2000).unwrap();
+    let x = s.extremes(0, Component::N).unwrap().maximum;
+    assert_eq!((x.value, x.row.number(), x.acting), (230_000, 10, 0b1111));
+    let ice = [
+        (Kind::Live, 100),
+        (Kind::Ice, 100),
+        (Kind::SelfStraining, 10),
+    ];
+    let mut s = strained(Method::Allowable, 750, &ice);
+    s.set_ice(true);
+    let x = s.extremes(0, Component::N).unwrap().maximum;
+    assert_eq!((x.value, x.row.number(), x.acting), (177_500, 41, 0b111));
+}
+
+/// A look goes by the factor in force when it is made.
+#[test]
+fn a_verdict_by_the_factor_in_force() {
+    let mut s = strained(Method::Strength, 1500, &[(Kind::SelfStraining, 100)]);
+    let capacities = Capacities {
+        n: 150,
+        my: 10,
+        mz: 10,
+    };
+    s.set_capacities(0, capacities).unwrap();
+    let u = s.utilisation(0).unwrap();
+    assert_eq!((u.numerator, u.denominator), (15_000_000, 15_000_000));
+    assert!(u.pass);
+    s.set_straining(1501).unwrap();
+    assert!(!s.utilisation(0).unwrap().pass);
+    s.set_straining(1000).unwrap();
+    assert_eq!(s.utilisation(0).unwrap().numerator, 10_000_000);
+}
+
+#[test]
+fn straining_is_set_and_saved() {
+    let mut s = sheet(Settings::default(), &[(Kind::SelfStraining, 7)]);
+    assert_eq!(s.straining(), 1000);
+    let without = s.clone();
+    s.set_straining(1250).unwrap();
+    assert_eq!(s.straining(), 1250);
+    assert_ne!(s, without);
+    assert_eq!(s.save()[6..11], [9, 0, 2, 4, 226]);
+    assert_eq!(s.save()[11..], without.save()[6..]);
+    s.set_ice(true);
+    assert_eq!(s.save()[6..15], [8, 0, 1, 1, 9, 0, 2, 4, 226]);
+    assert_eq!((s.ice(), s.straining()), (true, 1250));
+    assert_eq!(Sheet::load(s.save()).unwrap(), s);
+    assert!(format!("{s:?}").contains("ice: true, straining: 1250"));
+    let mut fresh = s.clone();
+    fresh.run(&[Field::Start(Settings::default())]);
+    assert_eq!(fresh, Sheet::default());
+    s.set_ice(false);
+    s.set_straining(1000).unwrap();
+    assert_eq!(s, without);
+}
+
+#[test]
+fn limits_of_the_straining_factor() {
+    let limits = [
+        (Method::Strength, 1000, 2000),
+        (Method::Allowable, 750, 1000),
+    ];
+    for (method, least, most) in limits {
+        let mut s = strained(method, most, &[]);
+        for factor in [0, least - 1, most + 1, u16::MAX] {
+            assert_eq!(s.set_straining(factor), Err(Refusal::StrainingOutside));
+            assert_eq!(s.straining(), most);
+        }
+        for factor in [least, 1000, most] {
+            assert_eq!(s.set_straining(factor), Ok(()));
+            assert_eq!(s.straining(), factor);
+        }
+    }
+}
+
 /// Two cases of each kind, with effects of both signs at stations 0, 7 and 15, which have capacities.
 fn every_kind(settings: Settings, ice: bool) -> Sheet {
     let mut fields = vec![Field::Start(settings), Field::SetIce { on: ice }];
-    let kinds = (0..26).zip(Kind::ALL.iter().cycle());
+    let factor = match settings.method {
+        Method::Strength => 1400,
+        Method::Allowable => 800,
+    };
+    fields.push(Field::SetStraining { factor });
+    let kinds = (0..28).zip(Kind::ALL.iter().cycle());
     fields.extend(kinds.map(|(case, &kind)| Field::AddCase { case, kind }));
-    for (case, station) in (0..26).flat_map(|case| [0, 7, 15].map(|station| (case, station))) {
+    for (case, station) in (0..28).flat_map(|case| [0, 7, 15].map(|station| (case, station))) {
         let effect = |step| (i16::from(case) * step + i16::from(station)) % 201 - 100;
         let effects = Effects {
             n: effect(37),
@@ -354,7 +482,8 @@ fn refusals_of_loading() {
     assert_eq!(refused(&[1, 0, 3, 3, 0, 0]), Refusal::SettingsOutside);
     assert_eq!(refused(&[4, 0, 1, 32]), Refusal::CaseOutside);
     assert_eq!(refused(&[7, 0, 1, 16]), Refusal::StationOutside);
-    assert_eq!(refused(&[2, 0, 2, 0, 14]), Refusal::KindOutside);
+    assert_eq!(refused(&[2, 0, 2, 0, 15]), Refusal::KindOutside);
+    assert_eq!(refused(&[9, 0, 2, 0, 0]), Refusal::StrainingOutside);
     assert_eq!(refused(&[8, 0, 1, 2]), Refusal::SettingsOutside);
     assert_eq!(refused(&[6, 0, 2, 0, 3]), Refusal::ComponentOutside);
     let effects = [3, 0, 8, 0, 0, 0x27, 0x11, 0, 0, 0, 0];
@@ -391,7 +520,7 @@ fn refusals_have_their_numbers() {
         assert!(!refusal.to_string().is_empty());
     }
     assert_eq!(Refusal::from_number(0), None);
-    assert_eq!(Refusal::from_number(15), None);
+    assert_eq!(Refusal::from_number(16), None);
 }
 
 #[test]
@@ -466,7 +595,7 @@ fn shown_for_debugging() {
     s.set_capacities(4, capacities).unwrap();
     assert_eq!(
         format!("{s:?}"),
-        "Sheet { settings: Settings { method: Strength, live: Full, zone: NoFlood }, ice: false, \
+        "Sheet { settings: Settings { method: Strength, live: Full, zone: NoFlood }, ice: false, straining: 1000, \
          cases: {0: (Dead, {0: Effects { n: 7, my: 0, mz: 0 }})}, \
          capacities: {4: Capacities { n: 3, my: 2, mz: 1 }} }"
     );
@@ -483,11 +612,12 @@ fn fields_decoded() {
         bytes.push(9);
         assert_eq!(Field::decode(&bytes), Some((field, &[9][..])));
     }
-    assert_eq!(Field::decode(&[2, 0, 2, 0, 14]), None);
+    assert_eq!(Field::decode(&[2, 0, 2, 0, 15]), None);
     assert_eq!(Field::decode(&[4, 0, 2, 0, 0]), None);
     assert_eq!(Field::decode(&[8, 0, 0]), None);
     assert_eq!(Field::decode(&[8, 0, 1, 2]), None);
     assert_eq!(Field::decode(&[9, 0, 0]), None);
+    assert_eq!(Field::decode(&[10, 0, 0]), None);
 }
 
 /// A field of each tag, with every setting, kind and component.
@@ -519,6 +649,7 @@ fn every_field() -> Vec<Field> {
     fields.extend(Kind::ALL.iter().map(|&kind| Field::AddCase { case, kind }));
     fields.extend((Component::ALL.iter()).map(|&component| Field::Extremes { station, component }));
     fields.extend([false, true].map(|on| Field::SetIce { on }));
+    fields.extend([0, 750, 1000, u16::MAX].map(|factor| Field::SetStraining { factor }));
     fields.extend(every_start());
     fields
 }
@@ -574,9 +705,10 @@ fn a_full_sheet_has_the_greatest_size() {
         capacities,
     }));
     fields.push(Field::SetIce { on: true });
+    fields.push(Field::SetStraining { factor: 2000 });
     let mut s = Sheet::default();
     assert!(s.run(&fields).iter().all(|a| *a == Answer::Accepted));
-    assert_eq!(s.save().len(), 5962);
+    assert_eq!(s.save().len(), 5967);
     assert_eq!(Sheet::load(s.save()).unwrap(), s);
     let least = s.extremes(7, Component::N).unwrap().minimum;
     assert_eq!((least.value, least.acting), (-51_200, u32::MAX));
@@ -587,7 +719,7 @@ fn answers_that_are_not_whole() {
     assert_eq!(Answer::decode(&[]), None);
     assert_eq!(Answer::decode(&[0x80, 0]), None);
     assert_eq!(Answer::decode(&[0x81, 0, 1]), None);
-    assert_eq!(Answer::decode(&[0x81, 0, 1, 15]), None);
+    assert_eq!(Answer::decode(&[0x81, 0, 1, 16]), None);
     assert_eq!(Answer::decode(&[0x82, 0, 0]), None);
     for (row, follows) in [(15, 16), (43, 44)] {
         assert!(Answer::decode(&answer_in_row(row)).is_some());

@@ -9,6 +9,7 @@ use Rattle.integers.proofs.Masks.{mask-below}
 use Rattle.integers.proofs.Signs.{abs-negated}
 use Rattle.standard.specs.declared.Settings.{Settings}
 use Rattle.standard.specs.declared.Capacities.{Capacities}
+use Rattle.standard.specs.Range.{SettingsInRange}
 use Rattle.standard.specs.Combination.{caseCount, denominatorOf}
 use Rattle.envelope.specs.declared.Best.{Best}
 use Rattle.envelope.specs.declared.Peak.{Peak}
@@ -25,10 +26,10 @@ use Rattle.sheet.specs.Range.{InRange}
 use Rattle.sheet.proofs.Stations.{station-in-range, capacities-in-range}
 use Rattle.decoding.specs.Decoding.{ExtremeFits, AnswerFits}
 
-extreme-fits : (s : Settings) (kind : ℕ → ℕ) (e : ℕ → ℤ) → ((k : ℕ) → natAbs (e k) ≤ effectMost) → ExtremeFits (extremeOf s kind e)
+extreme-fits : (s : Settings) → SettingsInRange s → (kind : ℕ → ℕ) (e : ℕ → ℤ) → ((k : ℕ) → natAbs (e k) ≤ effectMost) → ExtremeFits (extremeOf s kind e)
 unfolding extremeIn
-extreme-fits s kind e small = record {
-  value = value-fits s kind e small;
+extreme-fits s range kind e small = record {
+  value = value-fits s kind e range small;
   row = omega (arith, row-below s kind e);
   acting = mask-below caseCount _;
   low = mask-below caseCount _;
@@ -43,8 +44,8 @@ module _ (w : Sheet) (t : ℕ) (h : InRange w) (a : t < 16) where
   extremes-fit j =
       let e : ℕ → ℤ = λ k. effectOf (stationEffects w t) k j in
       let small : (k : ℕ) → natAbs (e k) ≤ effectMost = λ k. omega (arith, station-in-range w t h a .effects-range (k * 3 + j)) in
-      let least = extreme-fits (w .settings) (kindAt w) (λ k. negℤ (e k)) (λ k. omega (arith, small k, abs-negated (e k))) in (
-        extreme-fits (w .settings) (kindAt w) e small,
+      let least = extreme-fits (w .settings) (h .settings) (kindAt w) (λ k. negℤ (e k)) (λ k. omega (arith, small k, abs-negated (e k))) in (
+        extreme-fits (w .settings) (h .settings) (kindAt w) e small,
         record { value = omega (arith, least .value, abs-negated (extremeOf (w .settings) (kindAt w) (λ k. negℤ (e k)) .value)); row = least .row; acting = least .acting; low = least .low },
       )
 
@@ -54,7 +55,7 @@ module _ (w : Sheet) (t : ℕ) (h : InRange w) (a : t < 16) where
       let p : Capacities = capacitiesAt w t in
       let r : CapacitiesInRange p = capacities-in-range w t h a c in
       let q : Peak = peakOf (patternBest (w .settings) (kindAt w) (effectOf (stationEffects w t)) p) 7 in
-      let u = extreme-fits (w .settings) (kindAt w) (weighed (patternOf p (q .pattern)) (effectOf (stationEffects w t)))
+      let u = extreme-fits (w .settings) (h .settings) (kindAt w) (weighed (patternOf p (q .pattern)) (effectOf (stationEffects w t)))
       (weighed-most (stationEffects w t) (patternOf p (q .pattern)) effects-in-range (pattern-in-range p (q .pattern) r)) in
       let x = subst (λ (b : Best). ExtremeFits (extremeIn (w .settings) (kindAt w) (weighed (patternOf p (q .pattern)) (effectOf (stationEffects w t))) b))
       (sym (peak-own (patternBest (w .settings) (kindAt w) (effectOf (stationEffects w t)) p) 7)) u in

@@ -34,7 +34,7 @@ dueOn w m = due (m .input) (length (m .out)) w
 pub record Demand1 (w s : Sheet) : Type 0 where
   -- a reading is refused with a number exactly when that refusal is due first (SCOPE 7.2)
   pub refused : (m : Made) (n : ℕ) → ReadOn s m → (m .result .answer ≡ answer.Refused n) ↔ ((dueOn w m ≡ n) × (n ≡ 0 → ⊥))
-  pub numbers : (m : Made) → ReadOn s m → dueOn w m ≤ 14
+  pub numbers : (m : Made) → ReadOn s m → dueOn w m ≤ 15
   -- every other one is answered as its tag says, which is no refusal (SCOPE 5.2)
   pub other : (m : Made) → ReadOn s m → dueOn w m ≡ 0 → m .result .answer ≡ fieldTag (m .input) .answer w (bodyOf (m .input))
   -- 14 consumes and writes nothing, 3 consumes all that is left, others the field (SCOPE 5.3, 7.3)

@@ -15,6 +15,7 @@ use Rattle.standard.specs.declared.Settings.{Settings}
 use Rattle.standard.specs.declared.Class.{Class}
 use Rattle.standard.specs.declared.Class.the-variants.{Always, Together, Subset, OneOf, Unknown}
 use Rattle.standard.specs.Kinds.{classOf, kindCount, groupCount, permanentEarth}
+use Rattle.standard.specs.Range.{SettingsInRange}
 use Rattle.standard.specs.Rows.{rowCount, factorOf, lowOf}
 use Rattle.standard.specs.Combination.{caseCount}
 use Rattle.standard.proofs.Facts.{factor-le}
@@ -92,13 +93,13 @@ module _ (s : Settings) (kind : ℕ → ℕ) (e : ℕ → ℤ) where
   unfolding governingOf
   row-below = best-some s (λ row. rowMaximum s row kind e) .0
 
-  pub value-fits : ((k : ℕ) → natAbs (e k) ≤ effectMost) → natAbs (governingOf s kind e .value) < 2 ^ 63
+  pub value-fits : SettingsInRange s → ((k : ℕ) → natAbs (e k) ≤ effectMost) → natAbs (governingOf s kind e .value) < 2 ^ 63
   unfolding governingOf
-  value-fits small =
+  value-fits range small =
       omega (
         arith,
         ap natAbs (best-some s (λ row. rowMaximum s row kind e) .1),
-        maximum-most 2000 effectMost s (governingOf s kind e .row) (factor-le s (governingOf s kind e .row)) kind e small,
+        maximum-most 2000 effectMost s (governingOf s kind e .row) (λ k. factor-le s (governingOf s kind e .row) k range) kind e small,
       )
 
 -- weighed effects of a station in range are in range

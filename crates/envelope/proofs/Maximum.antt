@@ -4,7 +4,6 @@ use Prim.Native.Nat.{ℕ, zero, suc, _+_, _*_, _<_, _≤_}
 use native.Mathlib.Omega.{arith}
 use mathlib.Core.Path.{_≡_, refl, sym, ap, _∙_, subst}
 use mathlib.Core.Bool.{Bool, true, false, cond, _&&_}
-use mathlib.Core.Logic.{_⊎_}
 use lib.Dec.{T, eqb, ltb}
 use lib.IntN.{ℤ, pos, negsuc, negℤ, _+ℤ_, _*ℤ_, negℤ-negℤ}
 use lib.Signed.{_≤ℤ_}
@@ -13,6 +12,7 @@ use Rattle.integers.proofs.Signs.{le-in, le-out, ≤-trans, neg-up, neg-down}
 use Rattle.integers.proofs.Linear.{left-commutes, distributes, minus-one, sum-adds, sum-scales}
 use Rattle.integers.proofs.Masks.{bit-of-mask}
 use Rattle.standard.specs.declared.Settings.{Settings}
+use Rattle.standard.specs.Range.{SettingsInRange}
 use Rattle.standard.specs.Rows.{factorOf}
 use Rattle.standard.specs.Combination.{Combination, Admissible, taken, factoredEffect, caseCount, named}
 use Rattle.standard.specs.Governing.{Reaches, Maximum, Minimum}
@@ -74,12 +74,12 @@ module _ (s : Settings) (r : ℕ) (kind : ℕ → ℕ) (e : ℕ → ℤ) (empty 
 abbrev pub namedBy : Extreme → Combination
 namedBy x = named (x .row) (x .acting) (x .low)
 
-module _ (s : Settings) (kind : ℕ → ℕ) (m : (s .method ≡ 1) ⊎ (s .method ≡ 2)) (empty : (k : ℕ) → caseCount ≤ k → kind k ≡ 0) where
+module _ (s : Settings) (kind : ℕ → ℕ) (range : SettingsInRange s) (empty : (k : ℕ) → caseCount ≤ k → kind k ≡ 0) where
   pub extreme-maximum : (e : ℕ → ℤ) → Maximum s kind e (namedBy (extremeOf s kind e)) (extremeOf s kind e .value)
   unfolding governingOf extremeIn
   extreme-maximum e =
       let b : Best = governingOf s kind e in
-      let o : BestOpen s (λ r. rowMaximum s r kind e) b = best-open s (λ r. rowMaximum s r kind e) m in
+      let o : BestOpen s (λ r. rowMaximum s r kind e) b = best-open s (λ r. rowMaximum s r kind e) range in
       record {
         none-above = λ d ok. ≤-trans (row-bound s kind e d ok) (o .none-above (d .row) (ok .open-row));
         named = subst (λ (v : ℤ). Reaches s kind e (namedBy (extremeOf s kind e)) v) (sym (o .value))

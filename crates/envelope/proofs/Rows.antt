@@ -13,6 +13,7 @@ use lib.Signed.{_≤ℤ_, ≤ℤ-refl, ltZ, ltZ-no}
 use Rattle.integers.proofs.Tests.{and-left, and-right, and-both, or-left, or-right, or-cases}
 use Rattle.integers.proofs.Signs.{≤-trans, less-le}
 use Rattle.standard.specs.declared.Settings.{Settings}
+use Rattle.standard.specs.Range.{SettingsInRange}
 use Rattle.standard.specs.Rows.{Span, rowCount, openRows, within, inSpans, openRow}
 use Rattle.standard.proofs.Facts.{begins, some-open}
 use Rattle.envelope.specs.declared.Best.{Best}
@@ -130,12 +131,12 @@ pub record BestOpen (s : Settings) (v : ℕ → ℤ) (b : Best) : Type 0 where
   pub open-row : T (openRow s (b .row))
   pub none-above : (r : ℕ) → T (openRow s r) → v r ≤ℤ b .value
 
-pub best-open : (s : Settings) (v : ℕ → ℤ) → (s .method ≡ 1) ⊎ (s .method ≡ 2) → BestOpen s v (bestOf s v)
+pub best-open : (s : Settings) (v : ℕ → ℤ) → SettingsInRange s → BestOpen s v (bestOf s v)
 unfolding bestOf openRow
-best-open s v m = go (openRows s) refl
+best-open s v range = go (openRows s) refl
   where
     go : (ps : List Span) → openRows s ≡ ps → BestOpen s v (bestOf s v)
-    go [] e = absurd (some-open s m e)
+    go [] e = absurd (some-open s range e)
     go (p ∷ ps) e =
         let g = subst (λ (q : List Span). Governs v (λ r. T (inSpans q r)) (λ r. T (inSpans q r)) (bestOver v q)) (sym e) (best-over v p ps (begins s p ps e .some)) in
         record { value = g .value; open-row = g .row; none-above = g .none-above }

@@ -6,7 +6,6 @@ use native.Mathlib.Nat.{le-trans}
 use native.Mathlib.Decide.{ℕ-discrete}
 use mathlib.Core.Path.{_≡_, refl, sym, ap, _∙_, subst}
 use mathlib.Core.Bool.{Bool, true, false, not, cond}
-use mathlib.Core.Logic.{_⊎_}
 use lib.Dec.{T, leb, leb→le, le→leb}
 use lib.IntN.{ℤ, pos, negsuc, negℤ, _+ℤ_, _*ℤ_, natAbs}
 use lib.Signed.{_≤ℤ_, ≤ℤ-refl, ltZ, ltZ-no}
@@ -14,6 +13,7 @@ use Rattle.integers.specs.Sums.{when, up, down}
 use Rattle.integers.proofs.Signs.{le-in, le-out, eq-in, ≤-trans, less-le, add-parts, abs-parts, neg-up, neg-down}
 use Rattle.integers.proofs.Linear.{product-up, product-down}
 use Rattle.standard.specs.declared.Settings.{Settings}
+use Rattle.standard.specs.Range.{SettingsInRange}
 use Rattle.standard.specs.declared.Capacities.{Capacities}
 use Rattle.standard.specs.Combination.{Combination, Admissible, factoredEffect, caseCount, bit, named, numeratorOf, denominatorOf, utilisationOf}
 use Rattle.standard.specs.Governing.{Maximum, Utilisation}
@@ -161,7 +161,7 @@ above v x p = omega (arith, le-out (pos x) v p, abs-parts v)
 unfoldable pub namedIn : Utilised → Combination
 namedIn x = named (x .row) (x .acting) (x .low)
 
-module _ (s : Settings) (kind : ℕ → ℕ) (m : (s .method ≡ 1) ⊎ (s .method ≡ 2)) (empty : (k : ℕ) → caseCount ≤ k → kind k ≡ 0) (effect : ℕ → ℕ → ℤ) (p : Capacities) where
+module _ (s : Settings) (kind : ℕ → ℕ) (range : SettingsInRange s) (empty : (k : ℕ) → caseCount ≤ k → kind k ≡ 0) (effect : ℕ → ℕ → ℤ) (p : Capacities) where
   abbrev peak : Peak
   peak = peakOf (patternBest s kind effect p) 7
 
@@ -173,7 +173,7 @@ module _ (s : Settings) (kind : ℕ → ℕ) (m : (s .method ≡ 1) ⊎ (s .meth
   unfolding extremeIn
   peak-maximum =
       subst (λ (b : Best). Maximum s kind peakEffect (namedBy (extremeIn s kind peakEffect b)) (b .value))
-      (sym (highest (patternBest s kind effect p) 7 .is)) (extreme-maximum s kind m empty peakEffect)
+      (sym (highest (patternBest s kind effect p) 7 .is)) (extreme-maximum s kind range empty peakEffect)
 
   -- and no admissible combination's numerator is above it
   numerator-le : (d : Combination) → Admissible s kind d → pos (utilisationOf s kind effect p d) ≤ℤ peak .best .value
@@ -181,7 +181,7 @@ module _ (s : Settings) (kind : ℕ → ℕ) (m : (s .method ≡ 1) ⊎ (s .meth
   numerator-le d ok =
       let i : ℕ = own-pattern s kind effect p d in
       subst (λ (v : ℤ). v ≤ℤ peak .best .value) (pattern-is s kind effect p d)
-      (≤-trans (extreme-maximum s kind m empty (weighed (patternOf p i) effect) .none-above d ok)
+      (≤-trans (extreme-maximum s kind range empty (weighed (patternOf p i) effect) .none-above d ok)
       (highest (patternBest s kind effect p) 7 .none-above i (own-small s kind effect p d)))
 
   pub utilisation-greatest : let x : Utilised = utilisedOf s kind effect p in

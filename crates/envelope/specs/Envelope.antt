@@ -45,7 +45,7 @@ bestAmong v b (p ∷ ps) = bestAmong v (bestIn v b p) ps
 abbrev pub laterOf : Span → Span
 laterOf p = rowsTo (p .first + 1) (p .last)
 
--- the best of the rows of some spans; where there is none, row 0, in which no kind has a factor
+-- the best of the rows of some spans; where there is none, row 0, which is no row
 unfoldable pub bestOver : (ℕ → ℤ) → List Span → Best
 bestOver v [] = bestAt 0 (v 0)
 bestOver v (p ∷ ps) = bestAmong v (bestAt (p .first) (v (p .first))) (laterOf p ∷ ps)

@@ -18,7 +18,7 @@ use Rattle.sheet.specs.declared.Answer.{Answer}
 use Rattle.sheet.specs.Looks.{unlessDue}
 use Rattle.headers.specs.declared.Header.{Header}
 use Rattle.headers.specs.declared.Header.the-variants.{Field, Short}
-use Rattle.headers.specs.Headers.{longestBody, headerOf, lengthOf, dueHeader}
+use Rattle.headers.specs.Headers.{longestBody, headerOf, lengthOf, lastTag, dueHeader}
 use Rattle.headers.proofs.Whole.{header-fits}
 use Rattle.answers.specs.Answers.{answerRoom, answerBytes}
 use Rattle.fields.specs.declared.Reading.{Reading}
@@ -28,7 +28,7 @@ use Rattle.fields.specs.Field.{tagOf, lengthIn, bodyOf, isCut, due, read
 use Rattle.fields.specs.Order.{fieldOf, reading, refusedWith, readHeader, readInOrder}
 
 -- ---- the header's refusals
-sizes : tabulate lengthOf 1 8 ≡ tabulate (λ tag. tagAt tag .size) 1 8
+sizes : tabulate lengthOf 1 lastTag ≡ tabulate (λ tag. tagAt tag .size) 1 lastTag
 unfolding lengthOf
 sizes = refl
 
@@ -43,8 +43,8 @@ by-tag false false false true h = absurd (let z : _≡_ {A = ℕ} 0 1 = cc (h re
 header-is : (tag len : ℕ) → dueHeader tag len ≡ firstDue (on (unknownTag tag) 1 ∷ on (not (eqb len (tagAt tag .size))) 2 ∷ [])
 unfolding dueHeader
 header-is tag len =
-    by-tag (eqb tag 0) (ltb 8 tag) (eqb len (lengthOf tag)) (eqb len (tagAt tag .size))
-    (λ a b. ap (eqb len) (same-at lengthOf (λ t. tagAt t .size) 1 8 tag sizes (omega (arith, eqb-false tag 0 a)) (omega (arith, ltb-false 8 tag b))))
+    by-tag (eqb tag 0) (ltb lastTag tag) (eqb len (lengthOf tag)) (eqb len (tagAt tag .size))
+    (λ a b. ap (eqb len) (same-at lengthOf (λ t. tagAt t .size) 1 lastTag tag sizes (omega (arith, eqb-false tag 0 a)) (omega (arith, ltb-false lastTag tag b))))
 
 no-test : (u v : Bool) → _≡_ {A = ℕ} (cond u 1 (cond v 2 0)) 0 → u ≡ false
 no-test true v e = absurd (let z : _≡_ {A = ℕ} 1 0 = e in omega arith)

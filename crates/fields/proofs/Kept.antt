@@ -9,7 +9,7 @@ use Rattle.sheet.specs.declared.Sheet.{Sheet}
 use Rattle.sheet.specs.declared.Answered.{Answered}
 use Rattle.sheet.specs.Looks.{lookedExtremes, lookedUtilisation}
 use Rattle.sheet.specs.Range.{InRange}
-use Rattle.sheet.proofs.Kept.{tried-kept, restarted, fill-kept, effects-kept, emptied-kept, capacities-kept, switch-kept}
+use Rattle.sheet.proofs.Kept.{tried-kept, restarted, fill-kept, effects-kept, emptied-kept, capacities-kept, switch-kept, straining-kept}
 use Rattle.headers.specs.declared.Header.{Header}
 use Rattle.headers.specs.declared.Header.the-variants.{Field, Short}
 use Rattle.fields.specs.declared.Reading.{Reading}
@@ -30,6 +30,7 @@ unfolding lookedExtremes lookedUtilisation
 run-kept s tag b h =
     run-by AnsweredInRange s tag b (restarted s _ _ _ h) (tried-kept _ s _ h (fill-kept s _ _ h)) (tried-kept _ s _ h (effects-kept s _ _ _ _ _ h))
     (tried-kept _ s _ h (emptied-kept s _ h)) (tried-kept _ s _ h (capacities-kept s _ _ _ _ h)) h h (tried-kept _ s _ h (switch-kept s _ h))
+    (tried-kept _ s _ h (straining-kept s _ h))
 
 pub field-kept : (s : Sheet) (tag : ℕ) (b : List ℕ) → InRange s → InRange (fieldOf s tag b .sheet)
 unfolding fieldOf

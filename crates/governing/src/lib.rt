@@ -1,5 +1,6 @@
 ghost use mathlib.Core.Path.{_≡_};
 ghost use Prim.Native.Nat.{_<_};
+ghost use Rattle.standard.specs.Range.{SettingsInRange};
 ghost use Rattle.standard.specs.Rows.{rowCount, rowsTo, byZone, byIce};
 ghost use Rattle.standard.specs.Columns.{rowTable};
 ghost use Rattle.envelope.specs.Envelope.{bestAt, betterBy, bestFrom, bestAmong, bestOf, higherBy, peakOf};
@@ -23,7 +24,7 @@ fn better(b: Best, row: usize, value: i64) -> Best
 }
 
 fn first_row(table: &RowTable, s: Settings, row: usize, t: Terms) -> Best
-    requires { ⌜ (row < rowCount) × (now table ≡ rowTable) × TermsInRange t ⌝ }
+    requires { ⌜ (row < rowCount) × (now table ≡ rowTable) × TermsInRange t × SettingsInRange s ⌝ }
     ensures { λ r. ⌜ r ≡ bestAt row (valueOf s row t) ⌝ }
 {
     Best {
@@ -33,7 +34,7 @@ fn first_row(table: &RowTable, s: Settings, row: usize, t: Terms) -> Best
 }
 
 fn with_row(b: Best, table: &RowTable, s: Settings, row: usize, t: Terms) -> Best
-    requires { ⌜ (row < rowCount) × (now table ≡ rowTable) × TermsInRange t ⌝ }
+    requires { ⌜ (row < rowCount) × (now table ≡ rowTable) × TermsInRange t × SettingsInRange s ⌝ }
     ensures { λ r. ⌜ r ≡ betterBy b row (valueOf s row t) ⌝ }
 {
     better(b, row, terms::value_of(table, s, row, t))
@@ -41,7 +42,7 @@ fn with_row(b: Best, table: &RowTable, s: Settings, row: usize, t: Terms) -> Bes
 
 // The best of rows 1 to 8. The rows stand as constants, so that the compiler folds the table into the code.
 fn strength(table: &RowTable, s: Settings, t: Terms) -> Best
-    requires { ⌜ (now table ≡ rowTable) × TermsInRange t ⌝ }
+    requires { ⌜ (now table ≡ rowTable) × TermsInRange t × SettingsInRange s ⌝ }
     ensures { λ r. ⌜ r ≡ bestFrom (λ row. valueOf s row t) (bestAt 1 (valueOf s 1 t)) 2 7 ⌝ }
 {
     let b1 = first_row(table, s, 1, t);
@@ -56,7 +57,7 @@ fn strength(table: &RowTable, s: Settings, t: Terms) -> Best
 
 // The same with the flood rows of method 1.
 fn strength_flooded(b: Best, table: &RowTable, s: Settings, t: Terms) -> Best
-    requires { ⌜ (now table ≡ rowTable) × TermsInRange t ⌝ }
+    requires { ⌜ (now table ≡ rowTable) × TermsInRange t × SettingsInRange s ⌝ }
     ensures { λ r. ⌜ r ≡ bestAmong (λ row. valueOf s row t) b (byZone s (rowsTo 9 10) (rowsTo 11 12)) ⌝ }
 {
     if s.zone == 1 {
@@ -72,7 +73,7 @@ fn strength_flooded(b: Best, table: &RowTable, s: Settings, t: Terms) -> Best
 
 // The best of rows 21 to 30.
 fn allowable(table: &RowTable, s: Settings, t: Terms) -> Best
-    requires { ⌜ (now table ≡ rowTable) × TermsInRange t ⌝ }
+    requires { ⌜ (now table ≡ rowTable) × TermsInRange t × SettingsInRange s ⌝ }
     ensures { λ r. ⌜ r ≡ bestFrom (λ row. valueOf s row t) (bestAt 21 (valueOf s 21 t)) 22 9 ⌝ }
 {
     let b21 = first_row(table, s, 21, t);
@@ -89,7 +90,7 @@ fn allowable(table: &RowTable, s: Settings, t: Terms) -> Best
 
 // The same with the flood rows of method 2.
 fn allowable_flooded(b: Best, table: &RowTable, s: Settings, t: Terms) -> Best
-    requires { ⌜ (now table ≡ rowTable) × TermsInRange t ⌝ }
+    requires { ⌜ (now table ≡ rowTable) × TermsInRange t × SettingsInRange s ⌝ }
     ensures { λ r. ⌜ r ≡ bestAmong (λ row. valueOf s row t) b (byZone s (rowsTo 31 35) (rowsTo 36 40)) ⌝ }
 {
     if s.zone == 1 {
@@ -111,7 +112,7 @@ fn allowable_flooded(b: Best, table: &RowTable, s: Settings, t: Terms) -> Best
 
 // The same with the ice rows of method 1.
 fn strength_iced(b: Best, table: &RowTable, s: Settings, t: Terms) -> Best
-    requires { ⌜ (now table ≡ rowTable) × TermsInRange t ⌝ }
+    requires { ⌜ (now table ≡ rowTable) × TermsInRange t × SettingsInRange s ⌝ }
     ensures { λ r. ⌜ r ≡ bestAmong (λ row. valueOf s row t) b (byIce s (rowsTo 13 15)) ⌝ }
 {
     if s.ice == 1 {
@@ -124,7 +125,7 @@ fn strength_iced(b: Best, table: &RowTable, s: Settings, t: Terms) -> Best
 
 // The same with the ice rows of method 2.
 fn allowable_iced(b: Best, table: &RowTable, s: Settings, t: Terms) -> Best
-    requires { ⌜ (now table ≡ rowTable) × TermsInRange t ⌝ }
+    requires { ⌜ (now table ≡ rowTable) × TermsInRange t × SettingsInRange s ⌝ }
     ensures { λ r. ⌜ r ≡ bestAmong (λ row. valueOf s row t) b (byIce s (rowsTo 41 43)) ⌝ }
 {
     if s.ice == 1 {
@@ -137,7 +138,7 @@ fn allowable_iced(b: Best, table: &RowTable, s: Settings, t: Terms) -> Best
 
 // The row that governs.
 fn governing(s: Settings, t: Terms) -> Best
-    requires { ⌜ TermsInRange t ⌝ }
+    requires { ⌜ TermsInRange t × SettingsInRange s ⌝ }
     ensures { λ r. ⌜ r ≡ bestOf s (λ row. valueOf s row t) ⌝ }
 {
     let table = rows::row_table();
@@ -156,7 +157,7 @@ fn governing(s: Settings, t: Terms) -> Best
 
 // The row that governs the effects, at 0 over 1, or the effects negated, at 1 over 0.
 pub fn toward(s: Settings, sums: &[u64], over: usize, under: usize) -> Best
-    requires { ⌜ Ready (now sums) × (over < 2) × (under < 2) ⌝ }
+    requires { ⌜ Ready (now sums) × (over < 2) × (under < 2) × SettingsInRange s ⌝ }
     ensures { λ r. ⌜ r ≡ towardOf s (now (sums .entry)) over under ⌝ }
 {
     governing(s, terms::terms_of(sums, over, under))
@@ -176,7 +177,7 @@ fn higher(q: Peak, pattern: usize, best: Best) -> Peak
 
 // The pattern with the greatest numerator, from the sums of four directions: pattern 7 - i is the opposite of pattern i.
 pub fn highest<'a>(s: Settings, s0: &'a [u64], s1: &'a [u64], s2: &'a [u64], s3: &'a [u64]) -> Peak
-    requires { ⌜ Ready (now s0) × Ready (now s1) × Ready (now s2) × Ready (now s3) ⌝ }
+    requires { ⌜ Ready (now s0) × Ready (now s1) × Ready (now s2) × Ready (now s3) × SettingsInRange s ⌝ }
     ensures { λ r. ⌜ r ≡ peakOf (eightOf s (now (s0 .entry)) (now (s1 .entry)) (now (s2 .entry)) (now (s3 .entry))) 7 ⌝ }
 {
     let best = toward(s, s0, 0, 1);

@@ -22,11 +22,15 @@ headerOf s =
 
 -- the length of a body by its tag, from tag 00, which is none (SCOPE 5.2)
 unfoldable pub lengthOf : ℕ → ℕ
-lengthOf tag = getD (0 ∷ 3 ∷ 2 ∷ 8 ∷ 1 ∷ 7 ∷ 2 ∷ 1 ∷ 1 ∷ []) tag 0
+lengthOf tag = getD (0 ∷ 3 ∷ 2 ∷ 8 ∷ 1 ∷ 7 ∷ 2 ∷ 1 ∷ 1 ∷ 2 ∷ []) tag 0
+
+-- the last of the tags (SCOPE 5.2)
+abbrev pub lastTag : ℕ
+lastTag = 9
 
 -- 1 for an unknown tag, then 2 for a length that is not the tag's (SCOPE 7.2)
 unfoldable pub dueHeader : ℕ → ℕ → ℕ
-dueHeader tag len = cond (eqb tag 0) 1 (cond (ltb 8 tag) 1 (cond (eqb len (lengthOf tag)) 0 2))
+dueHeader tag len = cond (eqb tag 0) 1 (cond (ltb lastTag tag) 1 (cond (eqb len (lengthOf tag)) 0 2))
 
 -- 3 consumes all that is left, others the field (SCOPE 5.3, 7.3)
 abbrev pub consumedOf : Header → List ℕ → ℕ

@@ -4,6 +4,8 @@ ghost use Rattle.headers.specs.Headers.{headerOf, lengthOf, dueHeader, c
 
 const LONGEST_BODY: usize = 60000;
 
+const LAST_TAG: u8 = 9;
+
 // A whole field at the front of the input, or one that goes past its end.
 pub enum Header {
     Field { tag: u8, len: usize },
@@ -41,6 +43,7 @@ fn right_length(tag: u8) -> usize
         6 => 2,
         7 => 1,
         8 => 1,
+        9 => 2,
         _ => 0,
     }
 }
@@ -50,7 +53,7 @@ pub fn due_header(tag: u8, len: usize) -> u8
     ensures { λ r. ⌜ r ≡ dueHeader tag len ⌝ }
 {
     let d = refusals::first(len == right_length(tag), 0, 2);
-    let d = refusals::first(8 < tag, 1, d);
+    let d = refusals::first(LAST_TAG < tag, 1, d);
     refusals::first(tag == 0, 1, d)
 }
 

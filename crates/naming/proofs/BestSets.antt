@@ -2,20 +2,23 @@
 -- Assumes nothing.
 use Prim.Native.Nat.{ℕ, _+_, _*_, _<_, _≤_, _^_, max}
 use native.Mathlib.Omega.{arith}
-use mathlib.Core.Bool.{Bool, true, false, not, _&&_, false≢true}
+use mathlib.Core.Bool.{Bool, true, false, _&&_, _||_, false≢true}
 use mathlib.Core.List.{List}
 use mathlib.Core.Path.{_≡_, refl, sym, ap, _∙_, subst}
-use lib.Dec.{T, eqb, ltb, eqb→eq}
+use borrow.Author.Tests.{lt-leb}
+use lib.Dec.{T, eqb, leb, ltb, eqb→eq, ltb→lt}
 use lib.IntN.{ℤ}
 use lib.ListN.{getD}
 use Rattle.integers.specs.Sums.{when, sum, most, maskOf, up, down}
 use Rattle.integers.specs.Sets.{has}
 use Rattle.integers.proofs.Masks.{mask-below, bit-in-mask}
+use Rattle.integers.proofs.Tests.{and-right}
 use Rattle.integers.proofs.Sums.{when-le, eqb-cases, ltb-cases, sum-same, sum-plus, sum-swap}
 use Rattle.standard.specs.declared.Settings.{Settings}
 use Rattle.standard.specs.declared.Class.{Class}
 use Rattle.standard.specs.declared.Class.the-variants.{Always, Together, Subset, OneOf, Unknown}
-use Rattle.standard.specs.Kinds.{classOf, kindCount, groupCount, fluid, permanentEarth}
+use Rattle.standard.specs.Kinds.{classOf, kindCount, groupCount, fluid, permanentEarth, selfStraining}
+use Rattle.standard.specs.Range.{SettingsInRange}
 use Rattle.standard.specs.Rows.{factorOf}
 use Rattle.standard.specs.Columns.{kindsIn}
 use Rattle.standard.specs.Combination.{caseCount}
@@ -51,18 +54,18 @@ class-of-group Subset g e l = absurd (omega arith)
 class-of-group (OneOf h) g e l = ap OneOf e
 class-of-group Unknown g e l = absurd (omega arith)
 
--- ---- the cases of a run of kinds
--- of the kinds whose cases all act, those that are not Hp
-abbrev isDead : ℕ → Bool
-isDead j = isAlways (classOf j) && not (eqb j permanentEarth)
+-- ---- the cases of one or two runs of kinds
+-- one of the numbers of two runs
+abbrev inEither : (first count next more : ℕ) → ℕ → Bool
+inEither first count next more j = inRun first count j || inRun next more j
 
--- these, Hp, the kinds of each other class and those of each group are a run of kinds
+-- the kinds of each class, Hp, and the kinds of each group are such runs
 record Runs : Type 0 where
-  dead : tabulate isDead 0 kindCount ≡ tabulate (inRun 1 1) 0 kindCount
+  always : tabulate (λ j. isAlways (classOf j)) 0 kindCount ≡ tabulate (inEither 1 1 permanentEarth 1) 0 kindCount
   joint : tabulate (λ j. isTogether (classOf j)) 0 kindCount ≡ tabulate (inRun fluid 1) 0 kindCount
   fluid : tabulate (λ j. isTogether (classOf j)) 0 kindCount ≡ tabulate (λ j. eqb j fluid) 0 kindCount
   earth : tabulate (λ j. eqb j permanentEarth) 0 kindCount ≡ tabulate (inRun 3 1) 0 kindCount
-  free : tabulate (λ j. isSubset (classOf j)) 0 kindCount ≡ tabulate (inRun 4 2) 0 kindCount
+  free : tabulate (λ j. isSubset (classOf j)) 0 kindCount ≡ tabulate (inEither 4 2 selfStraining 1) 0 kindCount
   roof : tabulate (λ j. eqb (groupOf j) 0) 0 kindCount ≡ tabulate (inRun 6 3) 0 kindCount
   wind : tabulate (λ j. eqb (groupOf j) 1) 0 kindCount ≡ tabulate (inRun 9 1) 0 kindCount
   quake : tabulate (λ j. eqb (groupOf j) 2) 0 kindCount ≡ tabulate (inRun 10 1) 0 kindCount
@@ -72,22 +75,22 @@ record Runs : Type 0 where
 
 runs : Runs
 unfolding classOf groupOf
-runs = record { dead = refl; joint = refl; fluid = refl; earth = refl; free = refl; roof = refl; wind = refl; quake = refl; flood = refl; ice = refl; icewind = refl }
+runs = record { always = refl; joint = refl; fluid = refl; earth = refl; free = refl; roof = refl; wind = refl; quake = refl; flood = refl; ice = refl; icewind = refl }
 
 six : (g : ℕ → ℕ) → sum groupCount g ≡ g 0 + g 1 + g 2 + g 3 + g 4 + g 5
 unfolding sum
 six g = omega arith
 
-earth-always : (j : ℕ) → j ≡ permanentEarth → isAlways (classOf j) ≡ true
-unfolding classOf
-earth-always j e = ap (λ (i : ℕ). isAlways (classOf i)) e
+-- two runs, the second past the first
+either-run : (a b f : Bool) (y : ℕ) → (T a → b ≡ false) → when ((a || b) && f) y ≡ when (a && f) y + when (b && f) y
+either-run true true f y e = absurd (false≢true (sym (e tt)))
+either-run true false f y e = omega arith
+either-run false true f y e = omega arith
+either-run false false f y e = refl
 
--- what always acts is Hp or not
-by-earth : (a h f : Bool) (y : ℕ) → (T h → a ≡ true) → when (a && f) y ≡ when ((a && not h) && f) y + when (h && f) y
-by-earth true true f y e = omega arith
-by-earth true false f y e = omega arith
-by-earth false true f y e = absurd (false≢true (e tt))
-by-earth false false f y e = refl
+runs-apart : (first count next more j : ℕ) → first + count ≤ next → T (inRun first count j) → inRun next more j ≡ false
+runs-apart first count next more j l t =
+    let h : j < first + count = ltb→lt j (first + count) (and-right (leb first j) (ltb j (first + count)) t) in rw (lt-leb next j (omega arith))
 
 -- where those that pass t are told by one test
 one-test : (t f own all : Bool) (y : ℕ) → (T t → own ≡ all) → when ((t && f) && own) y ≡ when all (when (t && f) y)
@@ -119,6 +122,18 @@ module _ (places : List ℕ) (kind : ℕ → ℕ) (held : Places places kind) wh
       at : ℕ → ℕ → ℕ
       at i k = when (has set (first + i)) (when (eqb (kind k) (first + i)) (2 ^ k))
 
+  -- or in one of two runs
+  gathered-both : (set first count next more : ℕ) → 0 < first → first + count ≤ next → next + more ≤ kindCount →
+      gatheredOf places set first count + gatheredOf places set next more ≡ maskOf caseCount (λ k. inEither first count next more (kind k) && has set (kind k))
+  unfolding maskOf
+  gathered-both set first count next more h l m =
+      let a : ℕ → ℕ = λ k. when (inRun first count (kind k) && has set (kind k)) (2 ^ k) in
+      let b : ℕ → ℕ = λ k. when (inRun next more (kind k) && has set (kind k)) (2 ^ k) in
+      (λ i. gathered-is set first count h (omega arith) i + gathered-is set next more (omega arith) m i)
+      ∙ sym (sum-plus caseCount a b)
+      ∙ sym (sum-same caseCount (λ k. when (inEither first count next more (kind k) && has set (kind k)) (2 ^ k)) (λ k. a k + b k)
+      (λ k _. either-run (inRun first count (kind k)) (inRun next more (kind k)) (has set (kind k)) (2 ^ k) (runs-apart first count next more (kind k) l)))
+
   gathered-below : (set first count : ℕ) → 0 < first → first + count ≤ kindCount → gatheredOf places set first count < 2 ^ caseCount
   gathered-below set first count h l =
       omega (arith, gathered-is set first count h l, mask-below caseCount (λ k. inRun first count (kind k) && has set (kind k)))
@@ -136,7 +151,12 @@ module _ (places : List ℕ) (kind : ℕ → ℕ) (held : Places places kind) wh
               when-le joint (gatheredOf places (kindsIn row) fluid 1),
             );
         earth = gathered-below (kindsIn row) 3 1 (omega arith) (omega arith);
-        free = gathered-below (kindsIn row) 4 2 (omega arith) (omega arith);
+        free =
+            omega (
+              arith,
+              gathered-both (kindsIn row) 4 2 selfStraining 1 (omega arith) (omega arith) (omega arith),
+              mask-below caseCount (λ k. inEither 4 2 selfStraining 1 (kind k) && has (kindsIn row) (kind k)),
+            );
         roof = gathered-below (kindsIn row) 6 3 (omega arith) (omega arith);
         wind = gathered-below (kindsIn row) 9 1 (omega arith) (omega arith);
         quake = gathered-below (kindsIn row) 10 1 (omega arith) (omega arith);
@@ -145,26 +165,36 @@ module _ (places : List ℕ) (kind : ℕ → ℕ) (held : Places places kind) wh
         icewind = gathered-below (kindsIn row) 13 1 (omega arith) (omega arith);
       }
 
-  module _ (below : (k : ℕ) → kind k < kindCount) (s : Settings) (row : ℕ) where
-    -- where the kinds that pass a test are a run: its cases are those whose kind passes the test and has a factor
-    module _ (test : ℕ → Bool) (first count : ℕ) (h : 0 < first) (l : first + count ≤ kindCount)
-        (run : tabulate test 0 kindCount ≡ tabulate (inRun first count) 0 kindCount) where
-      abbrev passing : ℕ → Bool
-      passing k = test (kind k) && factored s row kind k
+  module _ (below : (k : ℕ) → kind k < kindCount) (s : Settings) (range : SettingsInRange s) (row : ℕ) where
+    -- the cases whose kind passes a test and has a factor
+    abbrev passing : (ℕ → Bool) → ℕ → Bool
+    passing test k = test (kind k) && factored s row kind k
 
-      run-passing : gatheredOf places (kindsIn row) first count ≡ maskOf caseCount passing
-      run-passing =
-          gathered-is (kindsIn row) first count h l
-          ∙ mask-same caseCount (λ k. inRun first count (kind k) && has (kindsIn row) (kind k)) passing
-          (λ k m. λ i. sym (same-at test (inRun first count) 0 kindCount (kind k) run (omega arith) (omega (arith, below k))) i && kind-in s row (kind k) (below k) i)
+    -- another test that the same kinds pass
+    by-test : (test own : ℕ → Bool) → tabulate test 0 kindCount ≡ tabulate own 0 kindCount →
+        maskOf caseCount (λ k. own (kind k) && has (kindsIn row) (kind k)) ≡ maskOf caseCount (passing test)
+    by-test test own same =
+        mask-same caseCount (λ k. own (kind k) && has (kindsIn row) (kind k)) (passing test)
+        (λ k m. λ i. sym (same-at test own 0 kindCount (kind k) same (omega arith) (omega (arith, below k))) i && kind-in s row (kind k) range (below k) i)
 
-      member-passing : (k : ℕ) → k < caseCount → has (gatheredOf places (kindsIn row) first count) k ≡ passing k
-      member-passing k m = ap (λ (set : ℕ). has set k) run-passing ∙ bit-in-mask caseCount passing k m
+    -- where these kinds are a run, or two
+    run-passing : (test : ℕ → Bool) (first count : ℕ) → 0 < first → first + count ≤ kindCount →
+        tabulate test 0 kindCount ≡ tabulate (inRun first count) 0 kindCount → gatheredOf places (kindsIn row) first count ≡ maskOf caseCount (passing test)
+    run-passing test first count h l run = gathered-is (kindsIn row) first count h l ∙ by-test test (inRun first count) run
 
-      -- and those of them that pass another test
-      members-passing : (q : ℕ → Bool) → maskOf caseCount (λ k. has (gatheredOf places (kindsIn row) first count) k && q k) ≡ maskOf caseCount (λ k. passing k && q k)
+    runs-passing : (test : ℕ → Bool) (first count next more : ℕ) → 0 < first → first + count ≤ next → next + more ≤ kindCount →
+        tabulate test 0 kindCount ≡ tabulate (inEither first count next more) 0 kindCount →
+        gatheredOf places (kindsIn row) first count + gatheredOf places (kindsIn row) next more ≡ maskOf caseCount (passing test)
+    runs-passing test first count next more h l m both = gathered-both (kindsIn row) first count next more h l m ∙ by-test test (inEither first count next more) both
+
+    module _ (test : ℕ → Bool) (set : ℕ) (is : set ≡ maskOf caseCount (passing test)) where
+      member-passing : (k : ℕ) → k < caseCount → has set k ≡ passing test k
+      member-passing k m = ap (λ (y : ℕ). has y k) is ∙ bit-in-mask caseCount (passing test) k m
+
+      -- those of them that pass another test
+      members-passing : (q : ℕ → Bool) → maskOf caseCount (λ k. has set k && q k) ≡ maskOf caseCount (λ k. passing test k && q k)
       members-passing q =
-          mask-same caseCount (λ k. has (gatheredOf places (kindsIn row) first count) k && q k) (λ k. passing k && q k)
+          mask-same caseCount (λ k. has set k && q k) (λ k. passing test k && q k)
           (λ k m. ap (λ (t : Bool). t && q k) (member-passing k m))
 
     module _ (x : ℕ → ℤ) where
@@ -175,7 +205,7 @@ module _ (places : List ℕ) (kind : ℕ → ℕ) (held : Places places kind) wh
       unfolding groupOf
       lead-is g first count m h l run =
           lead-multiple caseCount w (λ k. when (has (gatheredOf places (kindsIn row) first count) k) (up (x k))) (worthOf s row kind x g) (omega arith)
-          (λ k n. by-group k ∙ ap (λ (t : Bool). w * when t (up (x k))) (sym (member-passing (λ j. eqb (groupOf j) g) first count h l run k n)))
+          (λ k n. by-group k ∙ ap (λ (t : Bool). w * when t (up (x k))) (sym (member-passing (λ j. eqb (groupOf j) g) _ (run-passing (λ j. eqb (groupOf j) g) first count h l run) k n)))
         where
           -- the factor that the group's cases share, or 1 where none has a factor
           w : ℕ
@@ -187,17 +217,6 @@ module _ (places : List ℕ) (kind : ℕ → ℕ) (held : Places places kind) wh
               (λ e. by-shared (factorOf s row (kind k)) (up (x k)) w
               (λ p. omega (arith, shared-factor s row (kind k) g (class-of-group (classOf (kind k)) g e m) p)))
               (λ _. omega arith)
-
-      -- the cases that all act
-      always-are : maskOf caseCount (λ k. isAlways (classOf (kind k)) && factored s row kind k) ≡ gatheredOf places (kindsIn row) 1 1 + gatheredOf places (kindsIn row) 3 1
-      unfolding maskOf
-      always-are =
-          let d : ℕ → ℕ = λ k. when (isDead (kind k) && factored s row kind k) (2 ^ k) in
-          let h : ℕ → ℕ = λ k. when (eqb (kind k) permanentEarth && factored s row kind k) (2 ^ k) in
-          sum-same caseCount (λ k. when (isAlways (classOf (kind k)) && factored s row kind k) (2 ^ k)) (λ k. d k + h k)
-          (λ k l. by-earth (isAlways (classOf (kind k))) (eqb (kind k) permanentEarth) (factored s row kind k) (2 ^ k) (λ t. earth-always (kind k) (eqb→eq (kind k) permanentEarth t)))
-          ∙ sum-plus caseCount d h
-          ∙ (λ i. sym (run-passing isDead 1 1 (omega arith) (omega arith) (runs .dead)) i + sym (run-passing (λ j. eqb j permanentEarth) 3 1 (omega arith) (omega arith) (runs .earth)) i)
 
       -- those that act together: F, by the total of its effects
       joint-are : maskOf caseCount (λ k. (isTogether (classOf (kind k)) && factored s row kind k) && actsTogether kind x (kind k))
@@ -219,11 +238,12 @@ module _ (places : List ℕ) (kind : ℕ → ℕ) (held : Places places kind) wh
           omega (
             arith,
             acting-is s row kind x,
-            always-are,
+            runs-passing (λ j. isAlways (classOf j)) 1 1 permanentEarth 1 (omega arith) (omega arith) (omega arith) (runs .always),
             joint-are,
             ap (λ (t : Bool). when t (gatheredOf places (kindsIn row) fluid 1)) e,
             six (λ g. leadBit caseCount (worthOf s row kind x g)),
-            members-passing (λ j. isSubset (classOf j)) 4 2 (omega arith) (omega arith) (runs .free) (λ k. ltb 0 (up (x k))),
+            members-passing (λ j. isSubset (classOf j)) _
+                (runs-passing (λ j. isSubset (classOf j)) 4 2 selfStraining 1 (omega arith) (omega arith) (omega arith) (runs .free)) (λ k. ltb 0 (up (x k))),
             lead-is 0 6 3 (omega arith) (omega arith) (omega arith) (runs .roof),
             lead-is 1 9 1 (omega arith) (omega arith) (omega arith) (runs .wind),
             lead-is 2 10 1 (omega arith) (omega arith) (omega arith) (runs .quake),
@@ -235,6 +255,6 @@ module _ (places : List ℕ) (kind : ℕ → ℕ) (held : Places places kind) wh
       pub named-low : (joint : Bool) → namedOf (chosenOf row places joint) x .low ≡ maskOf caseCount (lowIn s row kind x)
       unfolding namedOf chosenOf lowIn
       named-low joint =
-          members-passing (λ j. eqb j permanentEarth) 3 1 (omega arith) (omega arith) (runs .earth) (λ k. ltb 0 (down (x k)))
+          members-passing (λ j. eqb j permanentEarth) _ (run-passing (λ j. eqb j permanentEarth) 3 1 (omega arith) (omega arith) (runs .earth)) (λ k. ltb 0 (down (x k)))
           ∙ mask-same caseCount (λ k. (eqb (kind k) permanentEarth && factored s row kind k) && ltb 0 (down (x k))) (lowIn s row kind x)
           (λ k m. and-exchanged (eqb (kind k) permanentEarth) (factored s row kind k) (ltb 0 (down (x k))))

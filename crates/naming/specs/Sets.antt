@@ -9,7 +9,7 @@ use lib.Signed.{ltZ}
 use Rattle.integers.specs.Sums.{when, sum, most, mostAt, maskOf, up, down}
 use Rattle.integers.specs.Sets.{has}
 use Rattle.standard.specs.Columns.{kindsIn}
-use Rattle.standard.specs.Kinds.{fluid}
+use Rattle.standard.specs.Kinds.{fluid, selfStraining}
 use Rattle.standard.specs.Combination.{caseCount}
 use Rattle.naming.specs.declared.Marked.{Marked}
 use Rattle.naming.specs.declared.Chosen.{Chosen}
@@ -49,7 +49,7 @@ chosenOf row places joint =
     record {
       always = gatheredOf places (kindsIn row) 1 1 + gatheredOf places (kindsIn row) 3 1 + when joint (gatheredOf places (kindsIn row) fluid 1);
       earth = gatheredOf places (kindsIn row) 3 1;
-      free = gatheredOf places (kindsIn row) 4 2;
+      free = gatheredOf places (kindsIn row) 4 2 + gatheredOf places (kindsIn row) selfStraining 1;
       roof = gatheredOf places (kindsIn row) 6 3;
       wind = gatheredOf places (kindsIn row) 9 1;
       quake = gatheredOf places (kindsIn row) 10 1;

@@ -169,7 +169,7 @@ fn chosen_in(row: usize, places: &[u64], fluid: bool) -> Chosen
     Chosen {
         always: with_set(dead + earth, fluid, tank),
         earth,
-        free: gathered(places, factored, 4, 2),
+        free: gathered(places, factored, 4, 2) + gathered(places, factored, 14, 1),
         roof: gathered(places, factored, 6, 3),
         wind: gathered(places, factored, 9, 1),
         quake: gathered(places, factored, 10, 1),

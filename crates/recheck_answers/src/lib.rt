@@ -72,6 +72,7 @@ fn options(w: WorkingSheet) -> Options {
         live: w.live,
         zone: w.zone,
         ice: w.ice,
+        straining: w.straining,
     }
 }
 

@@ -2,8 +2,10 @@
 // Sets of cases are numbers, case k being bit k. Signed figures are two's complement in 64 bits.
 
 ghost use mathlib.Core.Path.{_≡_};
+ghost use mathlib.Core.Bool.{cond};
 ghost use Prim.Native.Nat.{_*_, _%_};
-ghost use Rattle.recheck_combinations.specs.Acting.{within, allOrNone, atMostOne, mayAct, mayBeLow, Factors};
+ghost use lib.Bits.{bitOr};
+ghost use Rattle.recheck_combinations.specs.Acting.{having, rulesOf, within, allOrNone, atMostOne, mayAct, mayBeLow, Factors};
 use recheck_rows::factor;
 use std::num::wrapping_add_u64;
 use std::num::wrapping_sub_u64;
@@ -35,40 +37,50 @@ pub struct Rules {
 }
 
 // Each place's full factor in the row.
-pub fn factors_in(kinds: &[u8; 32], row: u8, option: u8) -> [u64; 32]
-    ensures { λ r. ⌜ Factors r ⌝ }
+pub fn factors_in(kinds: &[u8; 32], row: u8, option: u8, straining: u16) -> [u64; 32]
+    ensures { λ r. ⌜ Factors straining r ⌝ }
 {
     let mut factors = [0u64; 32];
     let mut case: usize = 0;
     while case < 32 {
-        factors[case] = factor(row, kinds[case], option);
+        factors[case] = factor(row, kinds[case], option, straining);
         case += 1;
     }
     factors
 }
 
+// The set and, where it is asked for, the case of this bit.
+fn joined(set: u64, bit: u64, asked: bool) -> u64
+    ensures { λ r. ⌜ r ≡ cond asked (bitOr set bit) set ⌝ }
+{
+    if asked { set | bit } else { set }
+}
+
 // The set of cases of kinds `first` to `last` that have a factor.
-fn having(kinds: &[u8; 32], factors: &[u64; 32], first: u8, last: u8) -> u64 {
+fn having(kinds: &[u8; 32], factors: &[u64; 32], first: u8, last: u8) -> u64
+    ensures { λ r. ⌜ r ≡ having (now (kinds .entry)) (now (factors .entry)) first last 32 ⌝ }
+{
     let mut set: u64 = 0;
     let mut bit: u64 = 1;
     let mut case: usize = 0;
     while case < 32 {
         let kind = kinds[case];
-        if factors[case] != 0 && first <= kind && kind <= last {
-            set = set | bit;
-        }
+        let asked = (factors[case] != 0) & (first <= kind) & (kind <= last);
+        set = joined(set, bit, asked);
         bit = bit % 4294967296 * 2;
         case += 1;
     }
     set
 }
 
-pub fn rules_of(kinds: &[u8; 32], factors: &[u64; 32]) -> Rules {
+pub fn rules_of(kinds: &[u8; 32], factors: &[u64; 32]) -> Rules
+    ensures { λ r. ⌜ r ≡ rulesOf (now (kinds .entry)) (now (factors .entry)) ⌝ }
+{
     let hp = having(kinds, factors, 3, 3);
     Rules {
         always: having(kinds, factors, 1, 1) | hp,
         fluid: having(kinds, factors, 2, 2),
-        may: having(kinds, factors, 1, 13),
+        may: having(kinds, factors, 1, 14),
         roof: having(kinds, factors, 6, 8),
         wind: having(kinds, factors, 9, 9),
         earthquake: having(kinds, factors, 10, 10),

@@ -11,12 +11,13 @@ use recheck_combinations::rules_of;
 use recheck_rows::open;
 use std::num::wrapping_add_usize;
 
-// What opens rows and gives their factors: the sheet's four settings.
+// What opens rows and gives their factors: the sheet's five settings.
 pub struct Options {
     pub method: u8,
     pub live: u8,
     pub zone: u8,
     pub ice: u8,
+    pub straining: u16,
 }
 
 // The set of filled places.
@@ -159,7 +160,7 @@ pub fn all_between(k: Look, o: Options, kinds: &[u8; 32], effects: &[u16; 96]) -
     let mut row: u8 = 0;
     while row < 44 {
         if open(row, o.method, o.zone, o.ice) {
-            let factors = factors_in(kinds, row, o.live);
+            let factors = factors_in(kinds, row, o.live, o.straining);
             if !row_between(k, kinds, &factors, effects, &sets, count) {
                 between = false;
             }
@@ -179,7 +180,7 @@ pub struct Named {
 
 // Whether the combination named is admissible and gives exactly the figure beside it.
 pub fn reaches(k: Look, o: Options, kinds: &[u8; 32], effects: &[u16; 96], c: Named) -> bool {
-    let factors = factors_in(kinds, c.row, o.live);
+    let factors = factors_in(kinds, c.row, o.live, o.straining);
     let r = rules_of(kinds, &factors);
     let f = figure(k, &factors, effects, c.acting, c.low);
     let admissible = may_act(r, c.acting) & may_be_low(r, c.acting, c.low);

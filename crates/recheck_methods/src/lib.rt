@@ -39,16 +39,16 @@ fn refused_short(sheet: Sheet, out: &mut [u8]) -> bool {
 
 // Whether the sheet is saved as these bytes, and an output of a byte less is refused.
 pub fn saved_agrees(sheet: Sheet, own: &[u8]) -> bool
-    requires { ⌜ length (now own) < 5963 ⌝ }
+    requires { ⌜ length (now own) < 5968 ⌝ }
 {
     let n = own.len();
     if n == 0 {
         return false;
     }
     let less = n - 1;
-    let mut short = [UNWRITTEN; 5964];
+    let mut short = [UNWRITTEN; 5969];
     let refused = refused_short(sheet, &mut short[0..less]);
-    let mut out = [UNWRITTEN; 5964];
+    let mut out = [UNWRITTEN; 5969];
     let s = saving::save(sheet, &mut out);
     refused & is_written(s, n) & same_at(&out, 0, own) & filled_from(&out, n, UNWRITTEN)
 }
@@ -78,7 +78,8 @@ fn by_method(sheet: Sheet, field: &[u8]) -> Answered
         ),
         6 => sheet.look_extremes(first, second),
         7 => sheet.look_utilisation(first),
-        _ => sheet.switch_ice(first),
+        8 => sheet.switch_ice(first),
+        _ => sheet.set_straining(pair_at(field, 3)),
     }
 }
 
@@ -86,7 +87,7 @@ fn by_method(sheet: Sheet, field: &[u8]) -> Answered
 fn body_length(tag: u8) -> u16 {
     match tag {
         1 => 3,
-        2 | 6 => 2,
+        2 | 6 | 9 => 2,
         3 => 8,
         4 | 7 | 8 => 1,
         5 => 7,
@@ -149,7 +150,7 @@ fn answer_is(a: Answer, answer: &[u8]) -> bool {
 // not its tag's has no method.
 pub fn method_agrees(sheet: Sheet, field: &[u8], answer: &[u8], own: &[u8]) -> bool
     requires { ⌜ InRange sheet ⌝ }
-    requires { ⌜ length (now own) < 5963 ⌝ }
+    requires { ⌜ length (now own) < 5968 ⌝ }
 {
     if !is_whole(field) {
         return true;

@@ -8,4 +8,4 @@ abbrev pub negated : ℕ → ℕ
 negated effect = (65536 - effect) % 65536
 
 unfoldable pub turned : WorkingSheet → WorkingSheet
-turned w = record { method = w .method; live = w .live; zone = w .zone; ice = w .ice; kinds = w .kinds; effects = map negated (w .effects); capacities = w .capacities }
+turned w = record { method = w .method; live = w .live; zone = w .zone; ice = w .ice; straining = w .straining; kinds = w .kinds; effects = map negated (w .effects); capacities = w .capacities }

@@ -17,29 +17,30 @@ fn body_length(tag: u8) -> u16 {
         6 => 2,
         7 => 1,
         8 => 1,
+        9 => 2,
         _ => 65535,
     }
 }
 
 // The refusal where it is due.
 fn due(refused: bool, number: u8) -> u8
-    requires { ⌜ number ≤ 13 ⌝ }
-    ensures { λ r. ⌜ r ≤ 13 ⌝ }
+    requires { ⌜ number ≤ 15 ⌝ }
+    ensures { λ r. ⌜ r ≤ 15 ⌝ }
 {
     if refused { number } else { 0 }
 }
 
 // The first of several that is due.
 fn first(a: u8, b: u8) -> u8
-    requires { ⌜ a ≤ 13 ⌝ }
-    requires { ⌜ b ≤ 13 ⌝ }
-    ensures { λ r. ⌜ r ≤ 13 ⌝ }
+    requires { ⌜ a ≤ 15 ⌝ }
+    requires { ⌜ b ≤ 15 ⌝ }
+    ensures { λ r. ⌜ r ≤ 15 ⌝ }
 {
     if a == 0 { b } else { a }
 }
 
 fn header_refusal(field: &[u8]) -> u8
-    ensures { λ r. ⌜ r ≤ 13 ⌝ }
+    ensures { λ r. ⌜ r ≤ 15 ⌝ }
 {
     let n = field.len();
     let length = pair_at(field, 1);
@@ -52,13 +53,13 @@ fn header_refusal(field: &[u8]) -> u8
 }
 
 fn case_refusal(field: &[u8], at: usize) -> u8
-    ensures { λ r. ⌜ r ≤ 13 ⌝ }
+    ensures { λ r. ⌜ r ≤ 15 ⌝ }
 {
     due(byte_at(field, at) > 31, 5)
 }
 
 fn station_refusal(field: &[u8], at: usize) -> u8
-    ensures { λ r. ⌜ r ≤ 13 ⌝ }
+    ensures { λ r. ⌜ r ≤ 15 ⌝ }
 {
     due(byte_at(field, at) > 15, 6)
 }
@@ -66,7 +67,7 @@ fn station_refusal(field: &[u8], at: usize) -> u8
 // Two's complement: -10,000 is 55,536.
 fn effect_refusal(field: &[u8], at: usize) -> u8
     requires { ⌜ at < 60000 ⌝ }
-    ensures { λ r. ⌜ r ≤ 13 ⌝ }
+    ensures { λ r. ⌜ r ≤ 15 ⌝ }
 {
     let effect = pair_at(field, at);
     due((effect > 10000) & (effect < 55536), 9)
@@ -74,14 +75,14 @@ fn effect_refusal(field: &[u8], at: usize) -> u8
 
 fn capacity_refusal(field: &[u8], at: usize) -> u8
     requires { ⌜ at < 60000 ⌝ }
-    ensures { λ r. ⌜ r ≤ 13 ⌝ }
+    ensures { λ r. ⌜ r ≤ 15 ⌝ }
 {
     let capacity = pair_at(field, at);
     due((capacity < 1) | (capacity > 10000), 10)
 }
 
 fn start_refusal(field: &[u8]) -> u8
-    ensures { λ r. ⌜ r ≤ 13 ⌝ }
+    ensures { λ r. ⌜ r ≤ 15 ⌝ }
 {
     let method = byte_at(field, 3);
     let options = (byte_at(field, 4) > 1) | (byte_at(field, 5) > 2);
@@ -89,27 +90,39 @@ fn start_refusal(field: &[u8]) -> u8
 }
 
 fn switch_refusal(field: &[u8], at: usize) -> u8
-    ensures { λ r. ⌜ r ≤ 13 ⌝ }
+    ensures { λ r. ⌜ r ≤ 15 ⌝ }
 {
     due(byte_at(field, at) > 1, 4)
 }
 
+// The factor of T, within the range of the method that the sheet has.
+fn straining_refusal(method: u8, field: &[u8], at: usize) -> u8
+    requires { ⌜ at < 60000 ⌝ }
+    ensures { λ r. ⌜ r ≤ 15 ⌝ }
+{
+    let factor = pair_at(field, at);
+    if method == 1 {
+        return due((factor < 1000) | (factor > 2000), 15);
+    }
+    due((factor < 750) | (factor > 1000), 15)
+}
+
 fn kind_refusal(field: &[u8], at: usize) -> u8
-    ensures { λ r. ⌜ r ≤ 13 ⌝ }
+    ensures { λ r. ⌜ r ≤ 15 ⌝ }
 {
     let kind = byte_at(field, at);
-    due((kind < 1) | (kind > 13), 7)
+    due((kind < 1) | (kind > 14), 7)
 }
 
 fn component_refusal(field: &[u8], at: usize) -> u8
-    ensures { λ r. ⌜ r ≤ 13 ⌝ }
+    ensures { λ r. ⌜ r ≤ 15 ⌝ }
 {
     due(byte_at(field, at) > 2, 8)
 }
 
 // The body's values, from first to last.
-fn body_refusal(field: &[u8]) -> u8
-    ensures { λ r. ⌜ r ≤ 13 ⌝ }
+fn body_refusal(method: u8, field: &[u8]) -> u8
+    ensures { λ r. ⌜ r ≤ 15 ⌝ }
 {
     let case = case_refusal(field, 3);
     let station = station_refusal(field, 3);
@@ -129,13 +142,14 @@ fn body_refusal(field: &[u8]) -> u8
         }
         6 => first(station, component_refusal(field, 4)),
         8 => switch_refusal(field, 3),
+        9 => straining_refusal(method, field, 3),
         _ => station,
     }
 }
 
 // What the sheet itself refuses: a place taken, a place empty, a station with no capacity.
 fn sheet_refusal(w: WorkingSheet, field: &[u8]) -> u8
-    ensures { λ r. ⌜ r ≤ 13 ⌝ }
+    ensures { λ r. ⌜ r ≤ 15 ⌝ }
 {
     let tag = byte_at(field, 0);
     let place = index_at(field, 3);
@@ -150,8 +164,8 @@ fn sheet_refusal(w: WorkingSheet, field: &[u8]) -> u8
 
 // The refusal due for a reading on this sheet, or 0.
 pub fn refusal_due(w: WorkingSheet, field: &[u8]) -> u8
-    ensures { λ r. ⌜ r ≤ 13 ⌝ }
+    ensures { λ r. ⌜ r ≤ 15 ⌝ }
 {
-    let values = first(body_refusal(field), sheet_refusal(w, field));
+    let values = first(body_refusal(w.method, field), sheet_refusal(w, field));
     first(header_refusal(field), values)
 }

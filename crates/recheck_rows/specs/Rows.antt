@@ -1,4 +1,4 @@
--- SCOPE 3.7: which rows a sheet opens, and the low factor. Flood and ice rows come beside the plain ones.
+-- SCOPE 3.7: which rows a sheet opens, the low factor, and T's. Flood and ice rows come beside the plain ones.
 use Prim.Native.Nat.{ℕ}
 use mathlib.Core.Bool.{Bool, cond, _&&_, _||_}
 use lib.Dec.{eqb, leb}
@@ -21,3 +21,7 @@ isOpen row method zone ice = cond (eqb method 1) (strengthOpen row zone ice) (al
 -- in place of the full factor of Hp (SCOPE 4.3)
 abbrev pub lowFactor : ℕ → ℕ
 lowFactor method = cond (eqb method 1) 900 600
+
+-- of T, in every row but the first of each method: the sheet's (SCOPE 3.9)
+abbrev pub selfStraining : ℕ → ℕ → ℕ
+selfStraining row straining = cond (eqb row 1 || eqb row 21) 0 straining

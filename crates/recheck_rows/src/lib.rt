@@ -1,8 +1,9 @@
-// The lines of the standard, kind by kind: which rows a sheet opens, and each kind's factor in a row, in thousandths.
+// The lines of the standard, kind by kind: which rows a sheet opens, and each kind's factor in a row, in thousandths. T alone has its
+// factor from the sheet.
 
 ghost use mathlib.Core.Path.{_≡_};
-ghost use Prim.Native.Nat.{_≤_};
-ghost use Rattle.recheck_rows.specs.Rows.{between, strengthOpen, allowableOpen, isOpen, lowFactor};
+ghost use Prim.Native.Nat.{_≤_, max};
+ghost use Rattle.recheck_rows.specs.Rows.{between, strengthOpen, allowableOpen, isOpen, lowFactor, selfStraining};
 
 fn between(n: u8, first: u8, last: u8) -> bool
     ensures { λ r. ⌜ r ≡ between n first last ⌝ }
@@ -189,9 +190,21 @@ fn ice_wind(row: u8) -> u64
     }
 }
 
+// Every row but the first of each method has the sheet's factor for T, flood and ice rows too.
+fn self_straining(row: u8, straining: u16) -> u64
+    ensures { λ r. ⌜ r ≡ selfStraining row straining ⌝ }
+    ensures { λ r. ⌜ r ≤ straining ⌝ }
+{
+    if (row == 1) | (row == 21) {
+        0
+    } else {
+        straining as u64
+    }
+}
+
 // The full factor of a kind in a row, 0 where the kind may not act there. Kind 0 is an empty place.
-pub fn factor(row: u8, kind: u8, option: u8) -> u64
-    ensures { λ r. ⌜ r ≤ 2000 ⌝ }
+pub fn factor(row: u8, kind: u8, option: u8, straining: u16) -> u64
+    ensures { λ r. ⌜ r ≤ max 2000 straining ⌝ }
 {
     match kind {
         1 => dead(row),
@@ -205,6 +218,7 @@ pub fn factor(row: u8, kind: u8, option: u8) -> u64
         11 => flood(row),
         12 => ice_weight(row),
         13 => ice_wind(row),
+        14 => self_straining(row, straining),
         _ => 0,
     }
 }

@@ -83,7 +83,7 @@ fn forms_agree(
 ) -> bool
     requires { ⌜ InRange sheet ⌝ }
     requires { ⌜ length (now answer) < 65 ⌝ }
-    requires { ⌜ length (now new) < 5963 ⌝ }
+    requires { ⌜ length (now new) < 5968 ⌝ }
 {
     let saved = saved_agrees(next, new);
     let methods = method_agrees(sheet, field, answer, new);

@@ -1,5 +1,6 @@
-// The saved form of the working sheet (SCOPE 8.1): tag 01; tag 08 while the ice rows are open; for each filled place, rising,
-// tag 02, then tag 03 for each station, rising, with an effect other than 0; then tag 05 for each station that has capacities.
+// The saved form of the working sheet (SCOPE 8.1): tag 01; tag 08 while the ice rows are open; tag 09 where the factor of T is not 1000;
+// for each filled place, rising, tag 02, then tag 03 for each station, rising, with an effect other than 0; then tag 05 for each station
+// that has capacities.
 
 ghost use mathlib.Core.Path.{_≡_};
 ghost use Prim.Native.Nat.{_+_, _≤_, _<_};
@@ -85,9 +86,9 @@ fn put_case(kind: u8, effects: &[u16; 1536], out: &mut [u8], at: usize, case: us
 }
 
 fn put_cases(kinds: &[u8; 32], effects: &[u16; 1536], out: &mut [u8], start: usize) -> usize
-    requires { ⌜ start ≤ 10 ⌝ }
-    requires { ⌜ 5802 ≤ length (now out) ⌝ }
-    ensures { λ r. ⌜ r ≤ 5802 ⌝ }
+    requires { ⌜ start ≤ 15 ⌝ }
+    requires { ⌜ 5807 ≤ length (now out) ⌝ }
+    ensures { λ r. ⌜ r ≤ 5807 ⌝ }
 {
     let mut at = start;
     let mut case: usize = 0;
@@ -119,9 +120,9 @@ fn put_station(out: &mut [u8], at: usize, station: u8, n: u16, y: u16, z: u16) -
 }
 
 fn put_capacities(capacities: &[u16; 48], out: &mut [u8], start: usize) -> usize
-    requires { ⌜ start ≤ 5802 ⌝ }
-    requires { ⌜ 5962 ≤ length (now out) ⌝ }
-    ensures { λ r. ⌜ r ≤ 5962 ⌝ }
+    requires { ⌜ start ≤ 5807 ⌝ }
+    requires { ⌜ 5967 ≤ length (now out) ⌝ }
+    ensures { λ r. ⌜ r ≤ 5967 ⌝ }
 {
     let mut at = start;
     let mut station: usize = 0;
@@ -136,23 +137,25 @@ fn put_capacities(capacities: &[u16; 48], out: &mut [u8], start: usize) -> usize
     at
 }
 
-// Tag 01 and, while the ice rows are open, tag 08.
-fn put_settings(out: &mut [u8], method: u8, live: u8, zone: u8, ice: u8) -> usize
-    requires { ⌜ 10 ≤ length (now out) ⌝ }
-    ensures { λ r. ⌜ r ≤ 10 ⌝ }
+// Tag 01; while the ice rows are open, tag 08; and tag 09, unless the factor of T is the one that tag 01 sets.
+fn put_settings(out: &mut [u8], method: u8, live: u8, zone: u8, ice: u8, straining: u16) -> usize
+    requires { ⌜ 15 ≤ length (now out) ⌝ }
+    ensures { λ r. ⌜ r ≤ 15 ⌝ }
 {
     let field = [1u8, 0, 3, method, live, zone];
     let next = put(out, 0, true, &field);
     let switch = [8u8, 0, 1, ice];
-    put(out, next, ice != 0, &switch)
+    let last = put(out, next, ice != 0, &switch);
+    let factor = [9u8, 0, 2, high(straining), low(straining)];
+    put(out, last, straining != 1000, &factor)
 }
 
 // Writes the saved form, and says how many bytes it has.
 fn put_saved(w: WorkingSheet, out: &mut [u8]) -> usize
-    requires { ⌜ 5962 ≤ length (now out) ⌝ }
-    ensures { λ r. ⌜ r ≤ 5962 ⌝ }
+    requires { ⌜ 5967 ≤ length (now out) ⌝ }
+    ensures { λ r. ⌜ r ≤ 5967 ⌝ }
 {
-    let settings = put_settings(out, w.method, w.live, w.zone, w.ice);
+    let settings = put_settings(out, w.method, w.live, w.zone, w.ice, w.straining);
     let kinds = w.kinds;
     let effects = w.effects;
     let cases = put_cases(&kinds, &effects, out, settings);
@@ -162,15 +165,15 @@ fn put_saved(w: WorkingSheet, out: &mut [u8]) -> usize
 
 // The saved form of the working sheet: the first `count` of the bytes.
 pub struct SavedForm {
-    pub bytes: [u8; 5962],
+    pub bytes: [u8; 5967],
     pub count: usize,
 }
 
 pub fn saved_form(w: WorkingSheet) -> SavedForm
-    ensures { λ r. ⌜ r .count ≤ 5962 ⌝ }
-    ensures { λ r. ⌜ 5962 ≡ length (r .bytes) ⌝ }
+    ensures { λ r. ⌜ r .count ≤ 5967 ⌝ }
+    ensures { λ r. ⌜ 5967 ≡ length (r .bytes) ⌝ }
 {
-    let mut bytes = [0u8; 5962];
+    let mut bytes = [0u8; 5967];
     let count = put_saved(w, &mut bytes);
     SavedForm { bytes, count }
 }

@@ -1,20 +1,21 @@
-// The working sheet, and what becomes of it under tags 01 to 05 and 08, once no refusal is due.
+// The working sheet, and what becomes of it under tags 01 to 05, 08 and 09, once no refusal is due.
 
 ghost use mathlib.Core.Path.{_≡_};
 ghost use Prim.Native.Nat.{_+_, _≤_};
 ghost use Rattle.recheck_bytes.specs.Bytes.{byteAt};
-ghost use Rattle.recheck_sheet.specs.Sheet.{blankOf, cleared, withKind, withEffects, withCapacities, withIce, changedBy};
+ghost use Rattle.recheck_sheet.specs.Sheet.{blankOf, cleared, withKind, withEffects, withCapacities, withIce, withStraining, changedBy};
 use recheck_bytes::byte_at;
 use recheck_bytes::index_at;
 use recheck_bytes::pair_at;
 
-// The working sheet. Ice is 1 while the ice rows are open. Kind 0 is an empty place; capacity 0 is none. Effects are 16 bits of two's complement: case c, station s,
-// component k at 48 c + 3 s + k. Capacities stand at 3 s + k.
+// The working sheet. Ice is 1 while the ice rows are open; straining is the factor of T. Kind 0 is an empty place; capacity 0 is none.
+// Effects are 16 bits of two's complement: case c, station s, component k at 48 c + 3 s + k. Capacities stand at 3 s + k.
 pub struct WorkingSheet {
     pub method: u8,
     pub live: u8,
     pub zone: u8,
     pub ice: u8,
+    pub straining: u16,
     pub kinds: [u8; 32],
     pub effects: [u16; 1536],
     pub capacities: [u16; 48],
@@ -34,6 +35,7 @@ fn blank(method: u8, live: u8, zone: u8) -> WorkingSheet
         live: live,
         zone: zone,
         ice: 0,
+        straining: 1000,
         kinds: [0u8; 32],
         effects: [0u16; 1536],
         capacities: [0u16; 48],
@@ -101,7 +103,15 @@ fn with_ice(w: WorkingSheet, ice: u8) -> WorkingSheet
     sheet
 }
 
-// The sheet after an accepted field of tags 01 to 05 and 08.
+fn with_straining(w: WorkingSheet, straining: u16) -> WorkingSheet
+    ensures { λ r. ⌜ r ≡ withStraining w straining ⌝ }
+{
+    let mut sheet = w;
+    sheet.straining = straining;
+    sheet
+}
+
+// The sheet after an accepted field of tags 01 to 05, 08 and 09.
 pub fn changed(w: WorkingSheet, field: &[u8]) -> WorkingSheet
     ensures { λ r. ⌜ r ≡ changedBy (byteAt (now (field .entry)) 0) w (now (field .entry)) ⌝ }
 {
@@ -123,6 +133,9 @@ pub fn changed(w: WorkingSheet, field: &[u8]) -> WorkingSheet
     }
     if tag == 8 {
         return with_ice(w, byte_at(field, 3));
+    }
+    if tag == 9 {
+        return with_straining(w, pair_at(field, 3));
     }
     w
 }

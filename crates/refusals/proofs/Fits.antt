@@ -8,11 +8,15 @@ use borrow.Author.Tests.{eq-eqb, ne-eqb, le-ltb, ltb-false, eqb-true, eqb-false}
 use lib.Dec.{ltb, eqb, lit<}
 use lib.IntN.{natAbs}
 use Rattle.wire.specs.Bytes.{signed16}
+use Rattle.integers.proofs.Tests.{neither}
+use Rattle.standard.specs.declared.Settings.{Settings}
 use Rattle.standard.specs.Kinds.{kindCount}
+use Rattle.standard.specs.Range.{methodOutside, liveOutside, zoneOutside, switchOutside, outside, strainingOutside, SettingsInRange}
+use Rattle.standard.specs.Rows.{settingsOf}
 use Rattle.standard.specs.Combination.{caseCount}
 use Rattle.standard.proofs.Facts.{kind-known, known-kind}
 use Rattle.envelope.specs.Range.{effectLimit, stationCount, componentCount}
-use Rattle.refusals.specs.Refusals.{caseOutside, stationOutside, componentOutside, effectOutside, capacityOutside, kindOutside, methodOutside, dueSettings, dueFillAt, dueEffectsAt, dueEmptyAt, dueCapacities, dueExtremes, dueUtilisationAt}
+use Rattle.refusals.specs.Refusals.{caseOutside, stationOutside, componentOutside, effectOutside, capacityOutside, kindOutside, dueSettings, dueFillAt, dueEffectsAt, dueEmptyAt, dueCapacities, dueExtremes, dueUtilisationAt, dueSwitch, dueStraining}
 
 -- a chain of refusals that gives 0: its first test fails, and the rest gives 0
 pub none-due : (t : Bool) (n r : ℕ) → 0 < n → cond t n r ≡ 0 → (t ≡ false) × (r ≡ 0)
@@ -24,12 +28,7 @@ opposite : (t : Bool) → not t ≡ false → t ≡ true
 opposite true e = refl
 opposite false e = sym e
 
--- no test of two holds
-neither : (a b : Bool) → (a || b) ≡ false → (a ≡ false) × (b ≡ false)
-neither false b e = (refl, e)
-neither true b e = absurd (let z : _≡_ {A = ℕ} 0 1 = cc in omega arith)
-
--- not outside the numbers from 1 on, whether methods or capacities
+-- not outside the numbers from 1 on
 pub inside : (n top : ℕ) → (eqb n 0 || ltb top n) ≡ false → (0 < n) × (n ≤ top)
 inside n top e =
     let h = neither (eqb n 0) (ltb top n) e in
@@ -41,12 +40,6 @@ below : (top n : ℕ) → ltb top n ≡ false → n < suc top
 below top n e = let h : n ≤ top = ltb-false top n e in omega arith
 
 -- what no refusal due says of each body
-pub record SettingsFit (m l z : ℕ) : Type 0 where
-  pub some : 0 < m
-  pub method : m ≤ 2
-  pub live : l ≤ 1
-  pub zone : z ≤ 2
-
 pub record FillFits (h k v : ℕ) : Type 0 where
   pub case : k < caseCount
   pub some : 0 < v
@@ -71,14 +64,26 @@ pub record CapacitiesFit (t a b c : ℕ) : Type 0 where
   pub y : capacityOutside b ≡ false
   pub z : capacityOutside c ≡ false
 
-pub settings-range : (method live zone : ℕ) → dueSettings method live zone ≡ 0 → SettingsFit method live zone
+-- 1000 lies in every method's range of the factor of T
+restored-factor : (t : Bool) → cond t (outside 1000 2000 1000) (outside 750 1000 1000) ≡ false
+restored-factor true = refl
+restored-factor false = refl
+
+pub settings-range : (method live zone : ℕ) → dueSettings method live zone ≡ 0 → SettingsInRange (settingsOf method live zone)
 unfolding dueSettings
 settings-range method live zone e =
     let a = none-due (methodOutside method) 4 _ (lit< tt) e in
-    let b = none-due (ltb 1 live) 4 _ (lit< tt) (a .1) in
-    let c = none-due (ltb 2 zone) 4 _ (lit< tt) (b .1) in
-    let m = inside method 2 (a .0) in
-    record { some = m .0; method = m .1; live = ltb-false 1 live (b .0); zone = ltb-false 2 zone (c .0) }
+    let b = none-due (liveOutside live) 4 _ (lit< tt) (a .1) in
+    let c = none-due (zoneOutside zone) 4 _ (lit< tt) (b .1) in
+    record { method = a .0; live = b .0; zone = c .0; ice = refl; straining = restored-factor (eqb method 1) }
+
+pub switch-range : (byte : ℕ) → dueSwitch byte ≡ 0 → switchOutside byte ≡ false
+unfolding dueSwitch
+switch-range byte e = none-due (switchOutside byte) 4 0 (lit< tt) e .0
+
+pub straining-range : (method factor : ℕ) → dueStraining method factor ≡ 0 → strainingOutside method factor ≡ false
+unfolding dueStraining
+straining-range method factor e = none-due (strainingOutside method factor) 15 0 (lit< tt) e .0
 
 pub fill-range : (held case kind : ℕ) → dueFillAt held case kind ≡ 0 → FillFits held case kind
 unfolding dueFillAt
@@ -133,6 +138,18 @@ inside-test n top a b =
 
 below-test : (top n : ℕ) → n < suc top → ltb top n ≡ false
 below-test top n h = let g : n ≤ top = omega arith in le-ltb top n g
+
+pub settings-allowed : (s : Settings) → SettingsInRange s → dueSettings (s .method) (s .live) (s .zone) ≡ 0
+unfolding dueSettings
+settings-allowed s h = rw (h .method, h .live, h .zone)
+
+pub switch-allowed : (s : Settings) → SettingsInRange s → dueSwitch (s .ice) ≡ 0
+unfolding dueSwitch
+switch-allowed s h = rw (h .ice)
+
+pub straining-allowed : (s : Settings) → SettingsInRange s → dueStraining (s .method) (s .straining) ≡ 0
+unfolding dueStraining
+straining-allowed s h = rw (h .straining)
 
 pub fill-allowed : (held case kind : ℕ) → FillFits held case kind → dueFillAt held case kind ≡ 0
 unfolding dueFillAt

@@ -6,6 +6,7 @@ use lib.Dec.{ltb, eqb}
 use lib.IntN.{natAbs}
 use Rattle.wire.specs.Bytes.{signed16}
 use Rattle.standard.specs.Kinds.{classOf, unknown}
+use Rattle.standard.specs.Range.{methodOutside, liveOutside, zoneOutside, switchOutside, strainingOutside}
 use Rattle.standard.specs.Combination.{caseCount}
 use Rattle.envelope.specs.Range.{effectLimit, capacityLimit, stationCount, componentCount}
 
@@ -19,7 +20,7 @@ stationOutside station = ltb (stationCount - 1) station
 abbrev pub componentOutside : ℕ → Bool
 componentOutside component = ltb (componentCount - 1) component
 
--- effects run from -10,000 to 10,000, capacities from 1 to 10,000, methods from 1 to 2; a kind is one that has a class (SCOPE 2.2 to 2.5)
+-- effects run from -10,000 to 10,000, capacities from 1 to 10,000; a kind is one that has a class (SCOPE 2.3 to 2.5)
 abbrev pub effectOutside : ℕ → Bool
 effectOutside raw = ltb effectLimit (natAbs (signed16 raw))
 
@@ -28,9 +29,6 @@ capacityOutside n = eqb n 0 || ltb capacityLimit n
 
 abbrev pub kindOutside : ℕ → Bool
 kindOutside n = unknown (classOf n)
-
-abbrev pub methodOutside : ℕ → Bool
-methodOutside n = eqb n 0 || ltb 2 n
 
 -- a refusal, and whether it is due
 pub record Refusal : Type 0 where
@@ -47,7 +45,7 @@ firstDue (r ∷ rs) = cond (r .due) (r .number) (firstDue rs)
 
 -- tag 01: method, live option, zone
 abbrev pub settingsRefusals : (method live zone : ℕ) → List Refusal
-settingsRefusals method live zone = on (methodOutside method) 4 ∷ on (ltb 1 live) 4 ∷ on (ltb 2 zone) 4 ∷ []
+settingsRefusals method live zone = on (methodOutside method) 4 ∷ on (liveOutside live) 4 ∷ on (zoneOutside zone) 4 ∷ []
 
 -- tag 02: case, kind; held is the kind at the place, 0 where it is empty
 abbrev pub fillRefusals : (held case kind : ℕ) → List Refusal
@@ -80,7 +78,11 @@ utilisationRefusals held station = on (stationOutside station) 6 ∷ on (eqb hel
 
 -- tag 08: 1 or 0
 abbrev pub switchRefusals : (byte : ℕ) → List Refusal
-switchRefusals byte = on (ltb 1 byte) 4 ∷ []
+switchRefusals byte = on (switchOutside byte) 4 ∷ []
+
+-- tag 09: the factor of T, by the method of the sheet
+abbrev pub strainingRefusals : (method factor : ℕ) → List Refusal
+strainingRefusals method factor = on (strainingOutside method factor) 15 ∷ []
 
 -- the first of each
 unfoldable pub dueSettings : (method live zone : ℕ) → ℕ
@@ -106,3 +108,6 @@ dueUtilisationAt held station = firstDue (utilisationRefusals held station)
 
 unfoldable pub dueSwitch : (byte : ℕ) → ℕ
 dueSwitch byte = firstDue (switchRefusals byte)
+
+unfoldable pub dueStraining : (method factor : ℕ) → ℕ
+dueStraining method factor = firstDue (strainingRefusals method factor)

@@ -1,7 +1,8 @@
 // The refusals on the values of a body: each function gives the number of the first that is due, or 0.
 ghost use mathlib.Core.Path.{_≡_};
 ghost use mathlib.Core.Bool.{cond};
-ghost use Rattle.refusals.specs.Refusals.{effectOutside, capacityOutside, kindOutside, methodOutside, dueSettings, dueFillAt, dueEffectsAt, dueEmptyAt, dueCapacities, dueExtremes, dueSwitch, dueUtilisationAt};
+ghost use Rattle.standard.specs.Range.{methodOutside, outside, strainingOutside};
+ghost use Rattle.refusals.specs.Refusals.{effectOutside, capacityOutside, kindOutside, dueSettings, dueFillAt, dueEffectsAt, dueEmptyAt, dueCapacities, dueExtremes, dueSwitch, dueStraining, dueUtilisationAt};
 use standard::Class;
 
 const LAST_CASE: u8 = 31;
@@ -48,6 +49,21 @@ fn method_outside(n: u8) -> bool
     ensures { λ r. ⌜ r ≡ methodOutside n ⌝ }
 {
     n == 0 || 2 < n
+}
+
+fn outside(least: u16, most: u16, n: u16) -> bool
+    ensures { λ r. ⌜ r ≡ outside least most n ⌝ }
+{
+    n < least || most < n
+}
+
+fn straining_outside(method: u8, factor: u16) -> bool
+    ensures { λ r. ⌜ r ≡ strainingOutside method factor ⌝ }
+{
+    if method == 1 {
+        return outside(1000, 2000, factor);
+    }
+    outside(750, 1000, factor)
 }
 
 // One step of a chain of refusals: the number where the test holds, else what the rest of the chain says.
@@ -120,4 +136,11 @@ pub fn due_switch(byte: u8) -> u8
     ensures { λ r. ⌜ r ≡ dueSwitch byte ⌝ }
 {
     first(1 < byte, 4, 0)
+}
+
+// `method` is the sheet's.
+pub fn due_straining(method: u8, factor: u16) -> u8
+    ensures { λ r. ⌜ r ≡ dueStraining method factor ⌝ }
+{
+    first(straining_outside(method, factor), 15, 0)
 }

@@ -3,25 +3,29 @@
 use Prim.Native.Nat.{ℕ, suc, _+_, _*_, _<_}
 use mathlib.Core.Path.{_≡_, refl, sym, ap, _∙_}
 use mathlib.Core.List.{List, [], _∷_, _++_, append-nil}
-use mathlib.Core.Bool.{Bool, true, false, _&&_}
+use mathlib.Core.Bool.{Bool, true, false, cond, _&&_}
 use mathlib.Core.Logic.{inl, inr}
 use native.Mathlib.Nat.{le-refl, le-suc, add-zero, add-suc}
 use native.Mathlib.Omega.{arith}
 use borrow.Author.Tests.{eqb-true, eqb-false}
 use lib.Dec.{eqb, lit<}
 use lib.IntN.{ℤ, pos, negsuc, natAbs}
+use lib.ListN.{length}
 use Rattle.wire.specs.Bytes.{bits16, wordBytes}
 use Rattle.sheet.specs.declared.Sheet.{Sheet}
 use Rattle.standard.specs.declared.Settings.{Settings}
-use Rattle.sheet.specs.Sheet.{kindAt, effectAt, capacityAt, fresh, freshSheet, withKind, withEffects, withCapacities, withSwitch}
+use Rattle.standard.specs.Rows.{switched, strained}
+use Rattle.sheet.specs.Sheet.{kindAt, effectAt, capacityAt, fresh, freshSheet, withKind, withEffects, withCapacities, withSettings}
 use Rattle.sheet.specs.Range.{InRange, AllOrNone}
-use Rattle.refusals.proofs.Fits.{CapacitiesFit, inside, fill-allowed, effects-allowed, capacities-allowed}
+use Rattle.refusals.specs.Refusals.{dueStraining}
+use Rattle.refusals.proofs.Fits.{CapacitiesFit, inside, settings-allowed, switch-allowed, straining-allowed, fill-allowed, effects-allowed, capacities-allowed}
 use Rattle.sheet.proofs.Kept.{fresh-kept}
 use Rattle.fields.proofs.Kept.{read-kept}
+use Rattle.fields.specs.Order.{fieldOf}
 use Rattle.fields.specs.Readings.{ReadThrough, end, field}
-use Rattle.saved_fields.specs.Saved.{upTo, words, settingsField, switchField, settingsBytes, fillField, effectsField, capacitiesField, allZero, stationBytes, caseBytes, capacityBytes, savedBy, savedBytes}
-use Rattle.restoring.proofs.Framing.{Leads, leads-field, leads-then, leads-so, leads-unless, leads-upTo}
-use Rattle.restoring.proofs.Stages.{Partly, settled, Settled, settings-edit, switch-edit, fill-edit, effects-edit, capacities-edit, effect-back, effect-within, of-three, not-below, is-below, none-there, all-there, nothing-more, kind-there, effects-there, capacities-there}
+use Rattle.saved_fields.specs.Saved.{upTo, words, settingsField, switchField, strainingField, settingsBytes, fillField, effectsField, capacitiesField, allZero, stationBytes, caseBytes, capacityBytes, savedBy, savedBytes}
+use Rattle.restoring.proofs.Framing.{accepted, Leads, leads-field, leads-then, leads-so, leads-unless, leads-upTo}
+use Rattle.restoring.proofs.Stages.{Partly, settled, Settled, settings-edit, switch-edit, straining-edit, fill-edit, effects-edit, capacities-edit, effect-back, effect-within, of-three, not-below, is-below, none-there, all-there, nothing-more, kind-there, effects-there, capacities-there}
 use Rattle.answers.specs.Answers.{answerRoom}
 
 both : (a b : Bool) → (a && b) ≡ true → (a ≡ true) × (b ≡ true)
@@ -49,31 +53,43 @@ module _ (s : Sheet) (h : InRange s) where
   unfolding settingsField settled
   first-read =
       leads-field 1 (own .method ∷ own .live ∷ own .zone ∷ []) (λ _. fresh (settled 0 own)) (lit< tt)
-      (λ p _. settings-edit p _ _ _ (h .settings .0))
+      (λ p _. settings-edit p _ _ _ (settings-allowed own (h .settings)))
       (λ _ _. record { is = refl })
 
-  switch-off : own .ice ≡ 0 → (p : Sheet) → Settled 0 s p → Settled 1 s p
-  unfolding settled
-  switch-off e p r = record { is = r .is ∙ rw e }
-
-  switch-on : Leads (Settled 0 s) (8 ∷ 0 ∷ 1 ∷ own .ice ∷ []) (Settled 1 s)
-  unfolding settled withSwitch fresh
-  switch-on =
-      leads-field 8 (own .ice ∷ []) (λ p. withSwitch p (own .ice)) (lit< tt)
-      (λ p _. switch-edit p (own .ice) (h .settings .1))
-      (λ p r. record { is = ap (λ (x : Sheet). withSwitch x (own .ice)) (r .is) })
+  -- a field that changes one setting, and is left out where nothing would change
+  setting-read : (n tag : ℕ) (body : List ℕ) (none : Bool) (change : Settings → Settings) → length body < 256 →
+      (none ≡ true → settled n own ≡ change (settled n own)) →
+      ((p : Sheet) → p .settings ≡ settled n own → fieldOf p tag body ≡ accepted (withSettings p (change (p .settings)))) →
+      change (settled n own) ≡ settled (suc n) own → Leads (Settled n s) (cond none [] (tag ∷ 0 ∷ length body ∷ body)) (Settled (suc n) s)
+  unfolding withSettings fresh
+  setting-read n tag body none change small same edit made =
+      leads-unless none
+      (λ e p r. record { is = r .is ∙ ap fresh (same e ∙ made) })
+      (λ _. leads-field tag body (λ p. withSettings p (change (p .settings))) small
+      (λ p r. edit p (ap (λ (x : Sheet). x .settings) (r .is)))
+      (λ p r. record { is = ap (λ (x : Sheet). withSettings x (change (x .settings))) (r .is) ∙ ap fresh made }))
 
   switch-read : Leads (Settled 0 s) (switchField own) (Settled 1 s)
-  unfolding switchField
-  switch-read = leads-unless (eqb (own .ice) 0) (λ e. switch-off (eqb-true (own .ice) 0 e)) (λ _. switch-on)
+  unfolding switchField settled
+  switch-read =
+      setting-read 0 8 (own .ice ∷ []) (eqb (own .ice) 0) (switched (own .ice)) (lit< tt)
+      (λ e. rw (eqb-true (own .ice) 0 e))
+      (λ p _. switch-edit p (own .ice) (switch-allowed own (h .settings))) refl
 
-  all-settled : (p : Sheet) → Settled 1 s p → Partly s 0 0 0 p
+  straining-read : Leads (Settled 1 s) (strainingField own) (Settled 2 s)
+  unfolding strainingField settled
+  straining-read =
+      setting-read 1 9 (wordBytes (own .straining)) (eqb (own .straining) 1000) (strained (own .straining)) (lit< tt)
+      (λ e. rw (eqb-true (own .straining) 1000 e))
+      (λ p e. straining-edit p (own .straining) (ap (λ (x : Settings). dueStraining (x .method) (own .straining)) e ∙ straining-allowed own (h .settings))) refl
+
+  all-settled : (p : Sheet) → Settled 2 s p → Partly s 0 0 0 p
   unfolding settled
   all-settled p r = rw (r .is) (none-there s)
 
   settings-read : Leads (λ _. Unit) (settingsBytes own) (Partly s 0 0 0)
   unfolding settingsBytes
-  settings-read = leads-so (leads-then first-read switch-read) all-settled
+  settings-read = leads-so (leads-then first-read (leads-then switch-read straining-read)) all-settled
 
   module _ (k : ℕ) (g : k < 32) where
     -- before the fields of the case, and after those of its stations below t

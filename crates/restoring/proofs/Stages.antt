@@ -19,10 +19,10 @@ use Rattle.wire.specs.Bytes.{signed16, bits16}
 use Rattle.wire.proofs.Cases.{lt-or-ge, eq-or-ne}
 use Rattle.sheet.specs.declared.Sheet.{Sheet}
 use Rattle.standard.specs.declared.Settings.{Settings}
-use Rattle.standard.specs.Rows.{settingsOf, switched}
-use Rattle.sheet.specs.Sheet.{kindAt, effectAt, capacityAt, fresh, withKind, withEffects, withCapacities, withSwitch}
-use Rattle.refusals.specs.Refusals.{dueSettings, dueFillAt, dueEffectsAt, dueCapacities, dueSwitch}
-use Rattle.sheet.specs.Edits.{dueFill, dueEffects, unlessRefused}
+use Rattle.standard.specs.Rows.{settingsOf, switched, strained}
+use Rattle.sheet.specs.Sheet.{kindAt, effectAt, capacityAt, fresh, withKind, withEffects, withCapacities, withSwitch, withStraining}
+use Rattle.refusals.specs.Refusals.{dueSettings, dueFillAt, dueEffectsAt, dueCapacities, dueSwitch, dueStraining}
+use Rattle.sheet.specs.Edits.{dueFill, dueEffects, dueFactor, unlessRefused}
 use Rattle.sheet.specs.Range.{InRange}
 use Rattle.sheet.proofs.Access.{Long, long, fresh-long, kind-long, effects-long, capacities-long, kind-filled, kind-other, effect-cleared, effect-kept, kind-leaves-capacity, kind-leaves-settings, effect-replaced, effect-other, effects-leave-kind, effects-leave-capacity, effects-leave-settings, capacity-replaced, capacity-other, capacities-leave-kind, capacities-leave-effect, capacities-leave-settings, fresh-settings, fresh-kind, fresh-effect, fresh-capacity, same-sheet}
 use Rattle.sheet.proofs.Refusals.{tried-none}
@@ -49,6 +49,10 @@ fill-edit s k v e = ap edited (sym (tried-none (dueFill s k v) s _ e refl))
 -- a number is what its two bytes say
 joined : (n : ℕ) → n / 256 * 256 + n % 256 ≡ n
 joined n = omega arith
+
+pub straining-edit : (s : Sheet) (factor : ℕ) → dueFactor s factor ≡ 0 → fieldOf s 9 (factor / 256 ∷ factor % 256 ∷ []) ≡ accepted (withStraining s factor)
+unfolding fieldOf dueHeader lengthOf runOf unlessRefused dueStraining
+straining-edit s factor e = rw (joined factor) (ap edited (sym (tried-none (dueFactor s factor) s _ e refl)))
 
 pub effects-edit : (s : Sheet) (k t n y z : ℕ) → dueEffects s k t n y z ≡ 0 →
     fieldOf s 3 (k ∷ t ∷ n / 256 ∷ n % 256 ∷ y / 256 ∷ y % 256 ∷ z / 256 ∷ z % 256 ∷ []) ≡ accepted (withEffects s k t (signed16 n) (signed16 y) (signed16 z))
@@ -117,10 +121,14 @@ module _ {A : Type 0} where
       (λ (ne : i ≡ n → ⊥). b ne ∙ o ∙ further n (suc n) i x d (omega arith) (λ f g. absurd (ne (omega arith))))
       (eq-or-ne i n)
 
--- the settings after each field of them: tag 01's, and then with the switch
+-- the settings after each field of them: tag 01's, then with the switch, then with the factor of T
+abbrev first : Settings → Settings
+first s = settingsOf (s .method) (s .live) (s .zone)
+
 unfoldable pub settled : ℕ → Settings → Settings
-settled zero s = settingsOf (s .method) (s .live) (s .zone)
-settled (suc n) s = switched (s .ice) (settingsOf (s .method) (s .live) (s .zone))
+settled zero s = first s
+settled (suc zero) s = switched (s .ice) (first s)
+settled (suc (suc n)) s = strained (s .straining) (switched (s .ice) (first s))
 
 pub record Settled (n : ℕ) (s p : Sheet) : Type 0 where
   pub is : p ≡ fresh (settled n (s .settings))

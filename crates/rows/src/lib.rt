@@ -5,10 +5,13 @@ ghost use mathlib.Core.Path.{_≡_};
 ghost use mathlib.Core.Bool.{false};
 ghost use Prim.Native.Nat.{_<_};
 ghost use Rattle.standard.specs.Kinds.{kindCount};
-ghost use Rattle.standard.specs.Rows.{rowCount, factorOf};
+ghost use Rattle.standard.specs.Rows.{rowCount, strainingIn, factorOf};
 ghost use Rattle.standard.specs.Columns.{columnOf, rowTable, kindsIn};
 
 const COLUMNS: usize = 12;
+
+// The kind T, which has no column.
+const SELF_STRAINING: usize = 14;
 
 pub type RowTable = [[u16; COLUMNS]; ROWS];
 
@@ -60,52 +63,52 @@ const LINES: RowTable = [
     [600, 0, 1000, 0, 0, 0, 0, 0, 0, 0, 700, 700],
 ];
 
-// By row: bit j where kind j has a factor.
+// By row: bit j where kind j has a factor. A number that no row has is never open.
 const ROW_KINDS: [u16; ROWS] = [
-    0,
+    16384,
     6,
-    510,
-    510,
-    990,
-    1022,
-    1214,
-    538,
-    1054,
-    3070,
-    2586,
-    3070,
-    2586,
-    4286,
-    12478,
-    12314,
-    0,
-    0,
-    0,
-    0,
-    0,
+    16894,
+    16894,
+    17374,
+    17406,
+    17598,
+    16922,
+    17438,
+    19454,
+    18970,
+    19454,
+    18970,
+    20670,
+    28862,
+    28698,
+    16384,
+    16384,
+    16384,
+    16384,
+    16384,
     6,
-    62,
-    478,
-    510,
-    542,
-    1054,
-    1022,
-    1214,
-    538,
-    1054,
-    2590,
-    2078,
-    3070,
-    2238,
-    2586,
-    2590,
-    2078,
-    3070,
-    2238,
-    2586,
-    4158,
-    12446,
-    12314,
+    16446,
+    16862,
+    16894,
+    16926,
+    17438,
+    17406,
+    17598,
+    16922,
+    17438,
+    18974,
+    18462,
+    19454,
+    18622,
+    18970,
+    18974,
+    18462,
+    19454,
+    18622,
+    18970,
+    20542,
+    28830,
+    28698,
 ];
 
 // The column of a kind; that of L is the one without the live option.
@@ -129,11 +132,27 @@ pub fn row_table() -> RowTable
     LINES
 }
 
+// The factor of T in a row: the sheet's, and none in rows 1 and 21.
+fn straining_in(s: Settings, row: usize) -> u16
+    ensures { λ r. ⌜ r ≡ strainingIn s row ⌝ }
+{
+    if row == 1 {
+        return 0;
+    }
+    if row == 21 {
+        return 0;
+    }
+    s.straining
+}
+
 // The factor of a kind in a row. Both columns of L are read, so that a constant row and kind fold to constants.
 pub fn factor(table: &RowTable, s: Settings, row: usize, kind: usize) -> u16
     requires { ⌜ (row < rowCount) × (0 < kind) × (kind < kindCount) × (now table ≡ rowTable) ⌝ }
     ensures { λ r. ⌜ r ≡ factorOf s row kind ⌝ }
 {
+    if kind == SELF_STRAINING {
+        return straining_in(s, row);
+    }
     let c = column(kind);
     let plain = table[row][c];
     let halved = table[row][4];

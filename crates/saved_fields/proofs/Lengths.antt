@@ -8,10 +8,11 @@ use native.Mathlib.Omega.{arith}
 use lib.Dec.{lit≤, eqb}
 use lib.IntN.{ℤ}
 use lib.ListN.{length, length-append}
+use Rattle.wire.specs.Bytes.{wordBytes}
 use Rattle.standard.specs.declared.Settings.{Settings}
 use Rattle.sheet.specs.declared.Sheet.{Sheet}
 use Rattle.sheet.specs.Sheet.{kindAt, effectAt, capacityAt}
-use Rattle.saved_fields.specs.Saved.{upTo, words, settingsField, switchField, settingsBytes, settingsMost, fillField, effectsField, capacitiesField, allZero, stationBytes, caseBytes, capacityBytes, savedBy, savedBytes, stationMost, caseMost, capacityMost, savedMost}
+use Rattle.saved_fields.specs.Saved.{upTo, words, settingsField, switchField, strainingField, settingsBytes, settingsMost, fillField, effectsField, capacitiesField, allZero, stationBytes, caseBytes, capacityBytes, savedBy, savedBytes, stationMost, caseMost, capacityMost, savedMost}
 
 -- n runs, each of b bytes at most
 pub upTo-most : (f : ℕ → List ℕ) (b : ℕ) → ((k : ℕ) → length (f k) ≤ b) → (n : ℕ) → length (upTo f n) ≤ n * b
@@ -23,7 +24,7 @@ upTo-most f b h (suc n) =
     rw (length-append, suc-mul) (omega arith)
 
 -- nothing, or w
-cond-most : (t : Bool) (w : List ℕ) (b : ℕ) → length w ≤ b → length (cond t [] w) ≤ b
+pub cond-most : (t : Bool) (w : List ℕ) (b : ℕ) → length w ≤ b → length (cond t [] w) ≤ b
 cond-most true w b h = zero-le
 cond-most false w b h = h
 
@@ -47,10 +48,11 @@ capacity-most capacity station =
     cond-most (eqb (held 0) 0) (capacitiesField station (held 0) (held 1) (held 2)) capacityMost (lit≤ tt)
 
 pub settings-most : (s : Settings) → length (settingsBytes s) ≤ settingsMost
-unfolding settingsBytes settingsField switchField
+unfolding settingsBytes settingsField switchField strainingField
 settings-most s =
     let h = cond-most (eqb (s .ice) 0) (8 ∷ 0 ∷ 1 ∷ s .ice ∷ []) 4 (lit≤ tt) in
-    omega (arith, length-append (settingsField s) (switchField s), h)
+    let g = cond-most (eqb (s .straining) 1000) (9 ∷ 0 ∷ 2 ∷ wordBytes (s .straining)) 5 (lit≤ tt) in
+    simp length-append (omega (arith, h, g))
 
 module _ (kind : ℕ → ℕ) (effect : ℕ → ℕ → ℕ → ℤ) where
   -- what is saved of all places

@@ -26,9 +26,13 @@ settingsField s = 1 ∷ 0 ∷ 3 ∷ s .method ∷ s .live ∷ s .zone ∷ []
 unfoldable pub switchField : Settings → List ℕ
 switchField s = cond (eqb (s .ice) 0) [] (8 ∷ 0 ∷ 1 ∷ s .ice ∷ [])
 
+-- tag 09 where the factor of T is not 1000
+unfoldable pub strainingField : Settings → List ℕ
+strainingField s = cond (eqb (s .straining) 1000) [] (9 ∷ 0 ∷ 2 ∷ wordBytes (s .straining))
+
 -- all settings
 unfoldable pub settingsBytes : Settings → List ℕ
-settingsBytes s = settingsField s ++ switchField s
+settingsBytes s = settingsField s ++ (switchField s ++ strainingField s)
 
 unfoldable pub fillField : ℕ → ℕ → List ℕ
 fillField case kind = 2 ∷ 0 ∷ 2 ∷ case ∷ kind ∷ []
@@ -58,7 +62,8 @@ unfoldable pub capacityBytes : (ℕ → ℕ → ℕ) → ℕ → List ℕ
 capacityBytes capacity station =
     cond (eqb (capacity station 0) 0) [] (capacitiesField station (capacity station 0) (capacity station 1) (capacity station 2))
 
--- tag 01, and tag 08 where the ice rows are on; then each filled place, rising; then each station that has capacities
+-- tag 01, tag 08 where the ice rows are on, tag 09 where the factor of T is not 1000; then each filled place, rising; then each station that
+-- has capacities
 unfoldable pub savedBy : Settings → (ℕ → ℕ) → (ℕ → ℕ → ℕ → ℤ) → (ℕ → ℕ → ℕ) → List ℕ
 savedBy settings kind effect capacity =
     settingsBytes settings ++ (upTo (caseBytes kind effect) 32 ++ upTo (capacityBytes capacity) 16)
@@ -66,7 +71,7 @@ savedBy settings kind effect capacity =
 unfoldable pub savedBytes : Sheet → List ℕ
 savedBytes s = savedBy (s .settings) (kindAt s) (effectAt s) (capacityAt s)
 
--- the most bytes of a station, of a place, of a station's capacities, of the settings and of a sheet: 5,962 (SCOPE 8.3)
+-- the most bytes of a station, of a place, of a station's capacities, of the settings and of a sheet: 5,967 (SCOPE 8.3)
 abbrev pub stationMost : ℕ
 stationMost = 11
 
@@ -77,7 +82,7 @@ abbrev pub capacityMost : ℕ
 capacityMost = 10
 
 abbrev pub settingsMost : ℕ
-settingsMost = 6 + 4
+settingsMost = 6 + 4 + 5
 
 abbrev pub savedMost : ℕ
 savedMost = settingsMost + 32 * caseMost + 16 * capacityMost

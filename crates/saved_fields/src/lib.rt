@@ -2,6 +2,8 @@
 use effects::Effects;
 use standard::Settings;
 ghost use mathlib.Core.Path.{_≡_};
+ghost use mathlib.Core.Bool.{cond};
+ghost use mathlib.Core.List.{[]};
 ghost use Prim.Native.Nat.{ℕ, _+_, _*_, _<_, _≤_};
 ghost use lib.ListN.{length, getD};
 ghost use lib.Seq.{sets};
@@ -129,16 +131,28 @@ pub fn put_capacities(capacities: &[u16; 48], out: &mut [u8], at: usize) -> usiz
     to
 }
 
-// The settings: tag 01, and tag 08 where the ice rows are on.
+// Bytes that are written unless there is no need for them.
+fn put_unless(none: bool, bytes: &[u8], out: &mut [u8], at: usize) -> usize
+    requires { ⌜ at + length (now bytes) ≤ length (now out) ⌝ }
+    ensures { λ r. ⌜ Put (now (out .entry)) at (cond none [] (now (bytes .entry))) r (now (out .exit)) ⌝ }
+{
+    if none {
+        return at;
+    }
+    wire::put_at(out, at, bytes)
+}
+
+// The settings: tag 01, tag 08 unless the ice rows are off, tag 09 unless the factor of T is 1000.
 pub fn put_settings(s: Settings, out: &mut [u8]) -> usize
     requires { ⌜ settingsMost ≤ length (now out) ⌝ }
     ensures { λ r. ⌜ Put (now (out .entry)) 0 (settingsBytes s) r (now (out .exit)) ⌝ }
 {
-    let b = [1u8, 0, 3, s.method, s.live, s.zone];
-    let at = wire::put_at(out, 0, &b);
-    if s.ice == 0 {
-        return at;
-    }
-    let on = [8u8, 0, 1, s.ice];
-    wire::put_at(out, at, &on)
+    let first = [1u8, 0, 3, s.method, s.live, s.zone];
+    let at = wire::put_at(out, 0, &first);
+    let ice = [8u8, 0, 1, s.ice];
+    let to = put_unless(s.ice == 0, &ice, out, at);
+    let high = (s.straining / 256) as u8;
+    let low = (s.straining % 256) as u8;
+    let straining = [9u8, 0, 2, high, low];
+    put_unless(s.straining == 1000, &straining, out, to)
 }

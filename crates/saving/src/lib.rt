@@ -11,7 +11,7 @@ ghost use Rattle.saved_fields.specs.Saved.{savedBytes, savedMost};
 ghost use Rattle.saving.specs.Saving.{savedOver, savedAnswer};
 
 // The most bytes of a saved sheet.
-pub const SAVED_MOST: usize = 6 + 4 + 32 * (5 + 16 * 11) + 16 * 10;
+pub const SAVED_MOST: usize = 6 + 4 + 5 + 32 * (5 + 16 * 11) + 16 * 10;
 
 // The count of bytes written, or the refusal 14.
 pub enum Saved {

@@ -11,7 +11,8 @@ use lib.ListN.{getD}
 use lib.IntN.{ℤ, pos, natAbs}
 use borrow.Author.Tests.{eqb-true}
 use Rattle.standard.specs.declared.Settings.{Settings}
-use Rattle.standard.specs.Rows.{settingsOf, freshSettings}
+use Rattle.standard.specs.Range.{SettingsInRange}
+use Rattle.standard.specs.Rows.{settingsOf, switched, strained, freshSettings}
 use Rattle.standard.specs.Kinds.{kindCount}
 use Rattle.standard.specs.Combination.{caseCount}
 use Rattle.envelope.specs.Range.{effectLimit, stationCount}
@@ -19,12 +20,12 @@ use Rattle.wire.specs.Bytes.{signed16}
 use Rattle.wire.proofs.Cases.{either, eq-or-ne}
 use Rattle.wire.proofs.Stores.{set-keep, sets-keep, replicate-all}
 use Rattle.sheet.specs.declared.Sheet.{Sheet}
-use Rattle.sheet.specs.Sheet.{kindAt, effectAt, capacityAt, fresh, freshSheet, withKind, withEffects, withCapacities, withSwitch}
+use Rattle.sheet.specs.Sheet.{kindAt, effectAt, capacityAt, fresh, freshSheet, withKind, withEffects, withCapacities, withSettings, withSwitch, withStraining}
 use Rattle.effects.specs.Effects.{place, cleared}
 use Rattle.refusals.specs.Refusals.{dueSettings, dueCapacities, dueSwitch}
-use Rattle.sheet.specs.Edits.{dueFill, dueEffects, dueEmpty, unlessRefused}
-use Rattle.sheet.specs.Range.{InRange, SettingsInRange, AllOrNone}
-use Rattle.refusals.proofs.Fits.{fill-range, effects-range, empty-range, capacities-range}
+use Rattle.sheet.specs.Edits.{dueFill, dueEffects, dueEmpty, dueFactor, unlessRefused}
+use Rattle.sheet.specs.Range.{InRange, AllOrNone}
+use Rattle.refusals.proofs.Fits.{settings-range, switch-range, straining-range, fill-range, effects-range, empty-range, capacities-range}
 use Rattle.sheet.proofs.Access.{long, fresh-long, kind-long, effects-long, capacities-long, kind-other, effect-cleared, effect-kept, effect-other, capacity-replaced, capacity-other, fresh-kind, fresh-settings, fresh-stored, fresh-effect, fresh-capacity}
 
 -- an effect within its limit
@@ -46,8 +47,7 @@ fresh-in-range settings e =
     }
 
 pub fresh-kept : InRange freshSheet
-unfolding dueSettings dueSwitch
-fresh-kept = fresh-in-range freshSettings (refl, refl)
+fresh-kept = fresh-in-range freshSettings (record { method = refl; live = refl; zone = refl; ice = refl; straining = refl })
 
 -- a place that is filled or emptied
 cleared-within : (l : List ℤ) (k n i : ℕ) → Within (getD l i (pos 0)) → Within (getD (cleared l k n) i (pos 0))
@@ -140,15 +140,15 @@ tried-kept d s s′ h g = ⊎-elim
 
 pub restarted : (s : Sheet) (method live zone : ℕ) → InRange s →
     InRange (unlessRefused (dueSettings method live zone) s (fresh (settingsOf method live zone)) .sheet)
-unfolding dueSwitch
 restarted s method live zone h =
-    tried-kept (dueSettings method live zone) s (fresh (settingsOf method live zone)) h (λ e. fresh-in-range (settingsOf method live zone) (e, refl))
+    tried-kept (dueSettings method live zone) s (fresh (settingsOf method live zone)) h
+    (λ e. fresh-in-range (settingsOf method live zone) (settings-range method live zone e))
 
-pub switch-kept : (s : Sheet) (byte : ℕ) → InRange s → dueSwitch byte ≡ 0 → InRange (withSwitch s byte)
-unfolding withSwitch effectAt capacityAt
-switch-kept s byte h e =
+settings-kept : (s : Sheet) (settings : Settings) → InRange s → SettingsInRange settings → InRange (withSettings s settings)
+unfolding withSettings effectAt capacityAt
+settings-kept s settings h range =
     record {
-      settings = (h .settings .0, e);
+      settings = range;
       kinds-long = h .kinds-long;
       effects-long = h .effects-long;
       capacities-long = h .capacities-long;
@@ -157,3 +157,15 @@ switch-kept s byte h e =
       empty-zero = h .empty-zero;
       capacities-whole = h .capacities-whole;
     }
+
+pub switch-kept : (s : Sheet) (byte : ℕ) → InRange s → dueSwitch byte ≡ 0 → InRange (withSwitch s byte)
+switch-kept s byte h e =
+    let r = h .settings in
+    settings-kept s (switched byte (s .settings)) h
+    (record { method = r .method; live = r .live; zone = r .zone; ice = switch-range byte e; straining = r .straining })
+
+pub straining-kept : (s : Sheet) (factor : ℕ) → InRange s → dueFactor s factor ≡ 0 → InRange (withStraining s factor)
+straining-kept s factor h e =
+    let r = h .settings in
+    settings-kept s (strained factor (s .settings)) h
+    (record { method = r .method; live = r .live; zone = r .zone; ice = r .ice; straining = straining-range (s .settings .method) factor e })

@@ -2,7 +2,7 @@
 -- Assumes nothing.
 use Prim.Native.Nat.{ℕ, zero, suc, _≤_, _<_}
 use mathlib.Core.Path.{_≡_, refl, sym, ap, _∙_, subst}
-use mathlib.Core.Logic.{_⊎_, inl, inr, ⊎-elim}
+use mathlib.Core.Logic.{_⊎_, inl, inr}
 use native.Mathlib.Omega.{arith}
 use lib.ListN.{length, List·getD-eq-default}
 use lib.IntN.{ℤ, pos, _+ℤ_, _*ℤ_}
@@ -16,10 +16,10 @@ use Rattle.standard.specs.Governing.{Reaches, Maximum, Minimum, Utilisation}
 use Rattle.envelope.specs.declared.Extremes as extremes
 use Rattle.envelope.specs.declared.Utilised.{Utilised}
 use Rattle.envelope.specs.Range.{effectOf}
-use Rattle.station.specs.Promises.{KnownMethod, ExtremesGovern, UtilisationGoverns}
+use Rattle.station.specs.Promises.{ExtremesGovern, UtilisationGoverns}
 use Rattle.station.proofs.Promised.{extremes-govern, utilisation-governs}
 use Rattle.refusals.specs.Refusals.{dueExtremes}
-use Rattle.refusals.proofs.Fits.{settings-range, extremes-range, utilisation-range}
+use Rattle.refusals.proofs.Fits.{extremes-range, utilisation-range}
 use Rattle.sheet.specs.declared.Sheet.{Sheet}
 use Rattle.sheet.specs.declared.Answer.{Answer}
 use Rattle.sheet.specs.declared.Answer.the-variants as answer
@@ -93,18 +93,13 @@ not-utilisation e = let z : _≡_ {A = ℕ} 0 1 = cc in omega arith
 
 -- ---- a sheet in range
 module _ (w : Sheet) (h : InRange w) where
-  method-known : KnownMethod (w .settings)
-  method-known =
-      let f = settings-range _ _ _ (h .settings .0) in
-      ⊎-elim inl (λ n. inr (omega (arith, f .some, f .method))) (eq-or-ne (w .settings .method) 1)
-
   none-past : (k : ℕ) → caseCount ≤ k → kindAt w k ≡ 0
   none-past k l = List·getD-eq-default (w .kinds) 0 (omega (arith, h .kinds-long))
 
   pub extremes-govern-at : (t j : ℕ) → t < 16 → j < 3 → ExtremesGovern (w .settings) (kindAt w) (λ k. effectAt w k t j) (extremesAt w t j)
   unfolding extremesAt
   extremes-govern-at t j a b =
-      let g = extremes-govern (w .settings) (kindAt w) none-past (λ k. effectOf (stationEffects w t) k j) (extremesAt w t j) refl method-known in
+      let g = extremes-govern (w .settings) (kindAt w) none-past (λ k. effectOf (stationEffects w t) k j) (extremesAt w t j) refl (h .settings) in
       let same : (k : ℕ) → k < caseCount → effectOf (stationEffects w t) k j ≡ effectAt w k t j = λ k l. effect-seen w t h a k j l b in
       record {
         maximum = maximum-agrees (w .settings) (kindAt w) _ _ same _ _ (g .maximum);
@@ -114,7 +109,7 @@ module _ (w : Sheet) (h : InRange w) where
   pub utilisation-governs-at : (t : ℕ) → t < 16 → UtilisationGoverns (w .settings) (kindAt w) (λ k j. effectAt w k t j) (capacitiesAt w t) (utilisationAt w t)
   unfolding utilisationAt
   utilisation-governs-at t a =
-      let g = utilisation-governs (w .settings) (kindAt w) none-past (effectOf (stationEffects w t)) (capacitiesAt w t) (utilisationAt w t) refl method-known in
+      let g = utilisation-governs (w .settings) (kindAt w) none-past (effectOf (stationEffects w t)) (capacitiesAt w t) (utilisationAt w t) refl (h .settings) in
       record {
         greatest = utilisation-agrees (w .settings) (kindAt w) (effectOf (stationEffects w t)) (λ k j. effectAt w k t j)
             (λ k j l b. effect-seen w t h a k j l b) (capacitiesAt w t) (g .greatest);

@@ -1,18 +1,12 @@
 -- The edit that a refusal leaves undone, and the answer that it gives.
 -- Assumes nothing.
-use Prim.Native.Nat.{ℕ, zero, suc, _≤_, _<_}
-use mathlib.Core.Path.{_≡_, refl, ap, _∙_}
-use mathlib.Core.Bool.{Bool, true, false, cond, _||_}
-use native.Mathlib.Omega.{arith}
-use borrow.Author.Tests.{eq-eqb, ne-eqb, le-ltb, ltb-false, eqb-true, eqb-false}
-use lib.Dec.{ltb, eqb, lit<}
-use lib.IntN.{natAbs}
-use Rattle.wire.specs.Bytes.{signed16}
+use Prim.Native.Nat.{ℕ}
+use mathlib.Core.Path.{_≡_, ap, _∙_}
+use borrow.Author.Tests.{eq-eqb, ne-eqb}
 use Rattle.sheet.specs.declared.Sheet.{Sheet}
 use Rattle.sheet.specs.declared.Edited.{Edited}
 use Rattle.sheet.specs.declared.Answer.{Answer}
 use Rattle.sheet.specs.declared.Answer.the-variants as answer
-use Rattle.refusals.specs.Refusals.{dueExtremes, dueUtilisationAt, effectOutside, capacityOutside, kindOutside, methodOutside, dueSettings, dueFillAt, dueEffectsAt, dueEmptyAt, dueCapacities}
 use Rattle.sheet.specs.Looks.{unlessDue}
 use Rattle.sheet.specs.Edits.{unlessRefused}
 

@@ -2,7 +2,7 @@
 use Prim.Native.Nat.{ℕ}
 use mathlib.Core.Bool.{cond}
 use lib.Dec.{eqb}
-use Rattle.refusals.specs.Refusals.{dueFillAt, dueEffectsAt, dueEmptyAt}
+use Rattle.refusals.specs.Refusals.{dueFillAt, dueEffectsAt, dueEmptyAt, dueStraining}
 use Rattle.sheet.specs.declared.Sheet.{Sheet}
 use Rattle.sheet.specs.declared.Edited.{Edited}
 use Rattle.sheet.specs.Sheet.{kindAt}
@@ -16,6 +16,10 @@ dueEffects s case station n y z = dueEffectsAt (kindAt s case) case station n y 
 
 abbrev pub dueEmpty : Sheet → ℕ → ℕ
 dueEmpty s case = dueEmptyAt (kindAt s case) case
+
+-- tag 09, whose refusal looks at the method
+abbrev pub dueFactor : Sheet → ℕ → ℕ
+dueFactor s factor = dueStraining (s .settings .method) factor
 
 -- If none is due, the table of tags says what becomes of the sheet; otherwise it stays as it was (SCOPE 9.2).
 unfoldable pub unlessRefused : ℕ → Sheet → Sheet → Edited

@@ -5,18 +5,14 @@ use mathlib.Core.Bool.{false}
 use mathlib.Core.Logic.{_⊎_}
 use lib.ListN.{length, getD}
 use lib.IntN.{pos, natAbs}
-use Rattle.standard.specs.declared.Settings.{Settings}
+use Rattle.standard.specs.Range.{SettingsInRange}
 use Rattle.standard.specs.Kinds.{kindCount}
 use Rattle.standard.specs.Combination.{caseCount}
 use Rattle.envelope.specs.Range.{effectLimit, stationCount, componentCount}
-use Rattle.refusals.specs.Refusals.{capacityOutside, dueSettings, dueSwitch}
+use Rattle.refusals.specs.Refusals.{capacityOutside}
 use Rattle.effects.specs.Effects.{effectCount}
 use Rattle.sheet.specs.declared.Sheet.{Sheet}
 use Rattle.sheet.specs.Sheet.{kindAt, effectAt, capacityCount, capacityAt}
-
--- no refusal is due on the settings (SCOPE 2.2)
-abbrev pub SettingsInRange : Settings → Type 0
-SettingsInRange s = (dueSettings (s .method) (s .live) (s .zone) ≡ 0) × (dueSwitch (s .ice) ≡ 0)
 
 -- three capacities, or none (SCOPE 2.5)
 abbrev pub AllOrNone : ℕ → ℕ → ℕ → Type 0

@@ -6,7 +6,7 @@ use lib.Seq.{sets}
 use lib.IntN.{ℤ}
 use Rattle.standard.specs.declared.Settings.{Settings}
 use Rattle.standard.specs.Combination.{caseCount}
-use Rattle.standard.specs.Rows.{switched, freshSettings}
+use Rattle.standard.specs.Rows.{switched, strained, freshSettings}
 use Rattle.envelope.specs.Range.{stationCount, componentCount}
 use Rattle.effects.specs.Effects.{effectCount, place, effectIn, zeros, cleared}
 use Rattle.sheet.specs.declared.Sheet.{Sheet}
@@ -53,6 +53,14 @@ unfoldable pub withCapacities : Sheet → ℕ → ℕ → ℕ → ℕ → Sheet
 withCapacities s station n y z =
     record { settings = s .settings; kinds = s .kinds; effects = s .effects; capacities = sets (s .capacities) (station * componentCount) (n ∷ y ∷ z ∷ []) }
 
+-- tags 08 and 09: other settings (SCOPE 5.2)
+unfoldable pub withSettings : Sheet → Settings → Sheet
+withSettings s settings = record { settings = settings; kinds = s .kinds; effects = s .effects; capacities = s .capacities }
+
 -- tag 08: the ice rows switched on, at 1, or off (SCOPE 5.2)
-unfoldable pub withSwitch : Sheet → ℕ → Sheet
-withSwitch s byte = record { settings = switched byte (s .settings); kinds = s .kinds; effects = s .effects; capacities = s .capacities }
+abbrev pub withSwitch : Sheet → ℕ → Sheet
+withSwitch s byte = withSettings s (switched byte (s .settings))
+
+-- tag 09: the factor of T (SCOPE 5.2)
+abbrev pub withStraining : Sheet → ℕ → Sheet
+withStraining s factor = withSettings s (strained factor (s .settings))

@@ -7,14 +7,14 @@ ghost use mathlib.Core.List.{List, [], _∷_};
 ghost use Prim.Native.Nat.{_*_, _<_};
 ghost use Rattle.wire.specs.Bytes.{signed16};
 ghost use Rattle.standard.specs.Combination.{caseCount};
-ghost use Rattle.standard.specs.Rows.{settingsOf, switched};
+ghost use Rattle.standard.specs.Rows.{settingsOf};
 ghost use Rattle.envelope.specs.Range.{stationCount, componentCount};
 ghost use Rattle.refusals.specs.Refusals.{dueSettings, dueCapacities, dueExtremes, dueSwitch};
-ghost use Rattle.sheet.specs.Sheet.{fresh, withKind, withEffects, withCapacities, withSwitch};
+ghost use Rattle.sheet.specs.Sheet.{fresh, withKind, withEffects, withCapacities, withSettings, withSwitch, withStraining};
 ghost use Rattle.sheet.specs.Range.{InRange};
 ghost use Rattle.sheet.specs.Looks.{extremesAt, utilisationAt, unlessDue, edited, dueUtilisation, lookedExtremes, lookedUtilisation, ExtremesPromised, UtilisationPromised};
 ghost use Rattle.sheet.specs.Parts.{restOf, whole, wholeOf};
-ghost use Rattle.sheet.specs.Edits.{dueFill, dueEffects, dueEmpty, unlessRefused};
+ghost use Rattle.sheet.specs.Edits.{dueFill, dueEffects, dueEmpty, dueFactor, unlessRefused};
 use effects::COMPONENTS;
 use effects::EFFECTS;
 use effects::Effects;
@@ -149,6 +149,15 @@ impl Sheet {
         r.with_effects(effects)
     }
 
+    // Tag 09.
+    pub fn set_straining(self, factor: u16) -> Answered
+        ensures { λ r. ⌜ r ≡ edited (unlessRefused (dueFactor self factor) self (withStraining self factor)) ⌝ }
+    {
+        let effects = self.effects;
+        let r = self.rest().set_straining(factor);
+        r.with_effects(effects)
+    }
+
     // Tag 06.
     pub fn look_extremes(self, station: u8, component: u8) -> Answered
         requires { ⌜ InRange self ⌝ }
@@ -248,13 +257,22 @@ impl Rest {
         r
     }
 
-    fn switched(self, byte: u8) -> Rest
-        ensures { λ r. ⌜ r ≡ record { settings = switched byte (self .settings); kinds = self .kinds; capacities = self .capacities } ⌝ }
+    // Other settings, where no refusal is due.
+    fn replace_settings(self, due: u8, settings: Settings) -> AnsweredRest
+        ensures { λ r. ⌜ ((effects : List ℤ) → wholeOf r effects ≡ edited (unlessRefused due (whole self effects) (withSettings (whole self effects) settings))) ⌝ }
     {
-        let settings = self.settings;
-        let mut r = self;
-        r.settings = settings.switched(byte);
-        r
+        if due == 0 {
+            let mut rest = self;
+            rest.settings = settings;
+            return AnsweredRest {
+                answer: Answer::Accepted,
+                rest,
+            };
+        }
+        AnsweredRest {
+            answer: Answer::Refused(due),
+            rest: self,
+        }
     }
 
     // Tag 01.
@@ -376,18 +394,18 @@ impl Rest {
     pub fn switch_ice(self, byte: u8) -> AnsweredRest
         ensures { λ r. ⌜ ((effects : List ℤ) → wholeOf r effects ≡ edited (unlessRefused (dueSwitch byte) (whole self effects) (withSwitch (whole self effects) byte))) ⌝ }
     {
+        let settings = self.settings;
         let due = refusals::due_switch(byte);
-        if due == 0 {
-            let rest = self.switched(byte);
-            return AnsweredRest {
-                answer: Answer::Accepted,
-                rest,
-            };
-        }
-        AnsweredRest {
-            answer: Answer::Refused(due),
-            rest: self,
-        }
+        self.replace_settings(due, settings.switched(byte))
+    }
+
+    // Tag 09.
+    pub fn set_straining(self, factor: u16) -> AnsweredRest
+        ensures { λ r. ⌜ ((effects : List ℤ) → wholeOf r effects ≡ edited (unlessRefused (dueFactor (whole self effects) factor) (whole self effects) (withStraining (whole self effects) factor))) ⌝ }
+    {
+        let settings = self.settings;
+        let due = refusals::due_straining(settings.method, factor);
+        self.replace_settings(due, settings.strained(factor))
     }
 
     // Tag 06.

@@ -6,7 +6,7 @@ use lib.ListN.{getD}
 use lib.Dec.{ltb}
 use Rattle.integers.specs.Sums.{maskOf}
 use Rattle.standard.specs.Kinds.{kindCount}
-use Rattle.standard.specs.Rows.{Line, lines, blank, columns, liveFactor, roofFactor, snowFactor}
+use Rattle.standard.specs.Rows.{Line, lines, liveFactor, roofFactor, snowFactor, freshSettings, factorOf}
 
 -- of each row the columns D, F, H, L, L with live option 1, roof, S, W, E, Fa, Di, Wi
 abbrev pub entries : Line → List ℕ
@@ -28,9 +28,6 @@ kindColumns halved = 0 ∷ 0 ∷ 1 ∷ 2 ∷ 2 ∷ cond halved 4 3 ∷ 5 ∷ 6 �
 unfoldable pub columnOf : Bool → ℕ → ℕ
 columnOf halved kind = getD (kindColumns halved) kind 0
 
--- the kinds that have a factor in a row, whatever the live option, as a set: bit j is kind j
-abbrev pub factoredKinds : Line → ℕ
-factoredKinds l = maskOf kindCount (λ j. ltb 0 (getD (columns false l) j 0))
-
+-- the kinds that have a factor in a row, whatever the settings, as a set: bit j is kind j
 unfoldable pub kindsIn : ℕ → ℕ
-kindsIn row = getD (map factoredKinds lines) row 0
+kindsIn row = maskOf kindCount (λ j. ltb 0 (factorOf freshSettings row j))

@@ -6,8 +6,8 @@ use lib.ListN.{getD}
 use Rattle.standard.specs.declared.Class.{Class}
 use Rattle.standard.specs.declared.Class.the-variants.{Always, Together, Subset, OneOf, Unknown}
 
--- By kind, from 0, an empty place: D, F, Hp, Hv, L, Lr, S, R, W, E, Fa, Di, Wi.
--- All D and Hp cases act; the F cases all together or not at all; any subset of Hv and of L; at most one among Lr, S and R together; at
+-- By kind, from 0, an empty place: D, F, Hp, Hv, L, Lr, S, R, W, E, Fa, Di, Wi, T.
+-- All D and Hp cases act; the F cases all together or not at all; any subset of Hv, of L and of T; at most one among Lr, S and R together; at
 -- most one W, one E, one Fa, one Di, one Wi (SCOPE 4.2).
 abbrev pub classes : List Class
 classes =
@@ -17,6 +17,7 @@ classes =
     ∷ OneOf 0 ∷ OneOf 0 ∷ OneOf 0
     ∷ OneOf 1 ∷ OneOf 2 ∷ OneOf 3
     ∷ OneOf 4 ∷ OneOf 5
+    ∷ Subset
     ∷ []
 
 unfoldable pub classOf : ℕ → Class
@@ -35,7 +36,7 @@ abbrev pub groupCount : ℕ
 groupCount = 6
 
 abbrev pub kindCount : ℕ
-kindCount = 14
+kindCount = 15
 
 -- F, whose cases are absent while the tank is empty (SCOPE 2.3, 4.2)
 abbrev pub fluid : ℕ
@@ -44,3 +45,7 @@ fluid = 2
 -- Hp, whose cases may take the low factor (SCOPE 2.3, 4.3)
 abbrev pub permanentEarth : ℕ
 permanentEarth = 3
+
+-- T, the self-straining loads, whose factor is the sheet's (SCOPE 2.3, 3.9)
+abbrev pub selfStraining : ℕ
+selfStraining = 14

@@ -5,14 +5,18 @@ use mathlib.Core.List.{List, [], _∷_, _++_, map}
 use lib.Dec.{eqb, leb}
 use lib.ListN.{getD, replicate}
 use Rattle.standard.specs.declared.Settings.{Settings}
+use Rattle.standard.specs.Kinds.{selfStraining}
 
--- a sheet's settings (SCOPE 2.2): ice is 1 where the ice rows are switched on, and tag 01 switches them off; those of a fresh sheet are
--- method 1, live option 0, zone 0 (SCOPE 2.6)
+-- a sheet's settings (SCOPE 2.2): ice is 1 where the ice rows are switched on, straining is the factor of T; tag 01 switches the ice rows
+-- off and sets the factor to 1000; those of a fresh sheet are method 1, live option 0, zone 0 (SCOPE 2.6)
 abbrev pub settingsOf : (method live zone : ℕ) → Settings
-settingsOf method live zone = record { method = method; live = live; zone = zone; ice = 0 }
+settingsOf method live zone = record { method = method; live = live; zone = zone; ice = 0; straining = 1000 }
 
 abbrev pub switched : ℕ → Settings → Settings
-switched ice s = record { method = s .method; live = s .live; zone = s .zone; ice = ice }
+switched ice s = record { method = s .method; live = s .live; zone = s .zone; ice = ice; straining = s .straining }
+
+abbrev pub strained : ℕ → Settings → Settings
+strained factor s = record { method = s .method; live = s .live; zone = s .zone; ice = s .ice; straining = factor }
 
 abbrev pub freshSettings : Settings
 freshSettings = settingsOf 1 0 0
@@ -167,9 +171,17 @@ columns halved l =
     ∷ l .ice ∷ l .icewind
     ∷ []
 
--- the factor of a kind in a row (SCOPE 3.1)
+-- what the table gives a kind in a row (SCOPE 3.1)
+abbrev pub tableFactor : Bool → ℕ → ℕ → ℕ
+tableFactor halved row kind = getD (columns halved (getD lines row blank)) kind 0
+
+-- T has the sheet's factor in every row but 1 and 21 (SCOPE 3.9)
+abbrev pub strainingIn : Settings → ℕ → ℕ
+strainingIn s row = cond (eqb row 1 || eqb row 21) 0 (s .straining)
+
+-- the factor of a kind in a row: that of T from the sheet, the others from the table (SCOPE 3.1, 3.9)
 unfoldable pub factorOf : Settings → ℕ → ℕ → ℕ
-factorOf s row kind = getD (columns (eqb (s .live) 1) (getD lines row blank)) kind 0
+factorOf s row kind = cond (eqb kind selfStraining) (strainingIn s row) (tableFactor (eqb (s .live) 1) row kind)
 
 -- the low factor, 900 in method 1 and 600 in method 2 (SCOPE 4.3)
 unfoldable pub lowOf : Settings → ℕ

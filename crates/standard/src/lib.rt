@@ -1,19 +1,21 @@
 ghost use mathlib.Core.Path.{_≡_};
 ghost use Rattle.standard.specs.Kinds.{classOf};
-ghost use Rattle.standard.specs.Rows.{settingsOf, switched, freshSettings, lowOf};
+ghost use Rattle.standard.specs.Rows.{settingsOf, switched, strained, freshSettings, lowOf};
 
 // Kinds are numbered from 1, so that 0 is an empty place; rows are numbered as in docs/FIELDS.md.
-pub const KINDS: usize = 14;
+pub const KINDS: usize = 15;
 
 pub const ROWS: usize = 44;
 
 pub const CASES: usize = 32;
 
-// What a sheet sets for all its combinations.
+// What a sheet sets for all its combinations. In this order it takes eight bytes, which are copied faster than six.
 pub struct Settings {
     pub method: u8,
     pub live: u8,
     pub zone: u8,
+    // The factor of T, in thousandths.
+    pub straining: u16,
     pub ice: u8,
 }
 
@@ -25,6 +27,7 @@ impl Settings {
             method,
             live,
             zone,
+            straining: 1000,
             ice: 0,
         }
     }
@@ -35,6 +38,15 @@ impl Settings {
     {
         let mut s = self;
         s.ice = ice;
+        s
+    }
+
+    // The same with another factor of T.
+    pub fn strained(self, factor: u16) -> Settings
+        ensures { λ r. ⌜ r ≡ strained factor self ⌝ }
+    {
+        let mut s = self;
+        s.straining = factor;
         s
     }
 }
@@ -69,6 +81,7 @@ pub fn class_of(kind: usize) -> Class
         1 => Class::Always,
         2 => Class::Together,
         3 => Class::Always,
+        14 => Class::Subset,
         4..=5 => Class::Subset,
         6..=8 => Class::OneOf(0),
         9..=13 => Class::OneOf(kind - 8),

@@ -10,6 +10,7 @@ use Rattle.integers.specs.Sums.{maskOf}
 use Rattle.integers.proofs.Masks.{mask-below}
 use Rattle.standard.specs.declared.Settings.{Settings}
 use Rattle.standard.specs.Kinds.{kindCount, fluid}
+use Rattle.standard.specs.Range.{SettingsInRange}
 use Rattle.standard.specs.Combination.{caseCount}
 use Rattle.optimum.specs.Row.{actsTogether, actsIn, lowIn}
 use Rattle.envelope.specs.declared.Extreme.{Extreme}
@@ -19,13 +20,13 @@ use Rattle.naming.specs.declared.Sets.{Sets}
 use Rattle.naming.specs.Sets.{chosenOf, namedOf}
 use Rattle.naming.proofs.BestSets.{named-acting, named-low}
 
-module _ (s : Settings) (kind : ℕ → ℕ) (below : (k : ℕ) → kind k < kindCount) (places : List ℕ) (held : Places places kind)
+module _ (s : Settings) (range : SettingsInRange s) (kind : ℕ → ℕ) (below : (k : ℕ) → kind k < kindCount) (places : List ℕ) (held : Places places kind)
     (x : ℕ → ℤ) (row : ℕ) (joint : Bool) (acts : joint ≡ actsTogether kind x fluid) (sets : Sets) (named : sets ≡ namedOf (chosenOf row places joint) x) where
   acting-is : sets .acting ≡ maskOf caseCount (actsIn s row kind x)
-  acting-is = ap (λ (y : Sets). y .acting) named ∙ named-acting places kind held below s row x joint acts
+  acting-is = ap (λ (y : Sets). y .acting) named ∙ named-acting places kind held below s range row x joint acts
 
   low-is : sets .low ≡ maskOf caseCount (lowIn s row kind x)
-  low-is = ap (λ (y : Sets). y .low) named ∙ named-low places kind held below s row x joint
+  low-is = ap (λ (y : Sets). y .low) named ∙ named-low places kind held below s range row x joint
 
   pub sets-fit : (sets .acting < 2 ^ caseCount) × (sets .low < 2 ^ caseCount)
   sets-fit = (omega (arith, acting-is, mask-below caseCount (actsIn s row kind x)), omega (arith, low-is, mask-below caseCount (lowIn s row kind x)))

@@ -2,7 +2,6 @@
 -- its answer names are those of the rows and sets in it, and its numbers are those of one pass over the cases.
 use Prim.Native.Nat.{ℕ}
 use mathlib.Core.Path.{_≡_}
-use mathlib.Core.Logic.{_⊎_}
 use mathlib.Core.List.{List}
 use lib.IntN.{ℤ, negℤ, natAbs}
 use Rattle.standard.specs.declared.Settings.{Settings}
@@ -14,10 +13,6 @@ use Rattle.envelope.specs.declared.Utilised.{Utilised}
 use Rattle.envelope.specs.Envelope.{peakOf}
 use Rattle.governing.specs.Ways.{towardOf, eightOf}
 use Rattle.passes.specs.Passes.{ServesBoth, ServesPatterns}
-
--- a method that has rows (SCOPE 2.2)
-abbrev pub KnownMethod : Settings → Type 0
-KnownMethod s = (s .method ≡ 1) ⊎ (s .method ≡ 2)
 
 pub record ExtremesGovern (s : Settings) (kind : ℕ → ℕ) (effect : ℕ → ℤ) (x : Extremes) : Type 0 where
   pub maximum : Maximum s kind effect (named (x .maximum .row) (x .maximum .acting) (x .maximum .low)) (x .maximum .value)

@@ -1,9 +1,10 @@
 ghost use mathlib.Core.Path.{_≡_};
 ghost use Prim.Native.Nat.{_<_, _^_};
+ghost use Rattle.standard.specs.Range.{SettingsInRange};
 ghost use Rattle.standard.specs.Combination.{caseCount, denominatorOf};
 ghost use Rattle.envelope.specs.Range.{kindOf, effectOf, StationInRange, EffectsInRange, CapacitiesInRange};
 ghost use Rattle.envelope.specs.Envelope.{extremesOf, utilisedOf};
-ghost use Rattle.station.specs.Promises.{KnownMethod, ExtremesGovern, ExtremesFromPass, UtilisationGoverns, UtilisationFromPass};
+ghost use Rattle.station.specs.Promises.{ExtremesGovern, ExtremesFromPass, UtilisationGoverns, UtilisationFromPass};
 ghost use Rattle.envelope.specs.Places.{Placed};
 ghost use Rattle.station.specs.Peaks.{PeakOf};
 use envelope::Extreme;
@@ -37,8 +38,8 @@ fn extreme(value: i64, row: usize, sets: Sets) -> Extreme
 
 // The maximum and the minimum of a component, from one pass over the cases.
 pub fn extremes_of(s: Settings, kinds: &[u8], effects: &[i16], component: usize) -> Extremes
-    requires { ⌜ StationInRange (now kinds) (now effects) × (component < 3) ⌝ }
-    ensures { λ r. ⌜ (r ≡ extremesOf s (kindOf (now (kinds .entry))) (λ k. effectOf (now (effects .entry)) k component)) × (KnownMethod s → ExtremesGovern s (kindOf (now (kinds .entry))) (λ k. effectOf (now (effects .entry)) k component) r) × ExtremesFromPass s (kindOf (now (kinds .entry))) (λ k. effectOf (now (effects .entry)) k component) r ⌝ }
+    requires { ⌜ StationInRange (now kinds) (now effects) × (component < 3) × SettingsInRange s ⌝ }
+    ensures { λ r. ⌜ (r ≡ extremesOf s (kindOf (now (kinds .entry))) (λ k. effectOf (now (effects .entry)) k component)) × ExtremesGovern s (kindOf (now (kinds .entry))) (λ k. effectOf (now (effects .entry)) k component) r × ExtremesFromPass s (kindOf (now (kinds .entry))) (λ k. effectOf (now (effects .entry)) k component) r ⌝ }
 {
     let places = sums::places_of(kinds);
     let sums = passes::component_pass(&places, effects, component);
@@ -57,7 +58,7 @@ pub fn extremes_of(s: Settings, kinds: &[u8], effects: &[i16], component: usize)
 
 // The pattern of signs with the greatest numerator, and whether the F cases act in it, from one pass over the cases.
 fn peak_of(s: Settings, places: &[u64], effects: &[i16], p: Capacities) -> Found
-    requires { ⌜ Placed (now places) × EffectsInRange (now effects) × CapacitiesInRange p ⌝ }
+    requires { ⌜ Placed (now places) × EffectsInRange (now effects) × CapacitiesInRange p × SettingsInRange s ⌝ }
     ensures { λ r. ⌜ PeakOf r s (now (places .entry)) (effectOf (now (effects .entry))) p ⌝ }
 {
     let mut s0 = [0u64; sums::SUMS];
@@ -81,8 +82,8 @@ fn denominator_of(p: Capacities) -> u64
 
 // The utilisation of a station.
 pub fn utilisation_of(s: Settings, kinds: &[u8], effects: &[i16], p: Capacities) -> Utilised
-    requires { ⌜ StationInRange (now kinds) (now effects) × CapacitiesInRange p ⌝ }
-    ensures { λ r. ⌜ (r ≡ utilisedOf s (kindOf (now (kinds .entry))) (effectOf (now (effects .entry))) p) × (KnownMethod s → UtilisationGoverns s (kindOf (now (kinds .entry))) (effectOf (now (effects .entry))) p r) × UtilisationFromPass s (kindOf (now (kinds .entry))) (effectOf (now (effects .entry))) p r ⌝ }
+    requires { ⌜ StationInRange (now kinds) (now effects) × CapacitiesInRange p × SettingsInRange s ⌝ }
+    ensures { λ r. ⌜ (r ≡ utilisedOf s (kindOf (now (kinds .entry))) (effectOf (now (effects .entry))) p) × UtilisationGoverns s (kindOf (now (kinds .entry))) (effectOf (now (effects .entry))) p r × UtilisationFromPass s (kindOf (now (kinds .entry))) (effectOf (now (effects .entry))) p r ⌝ }
 {
     let places = sums::places_of(kinds);
     let found = peak_of(s, &places, effects, p);

@@ -8,7 +8,6 @@ ghost use Rattle.envelope.specs.Range.{kindOf, effectOf, KindsInRange, EffectsI
 ghost use Rattle.envelope.specs.Places.{Places, PlacesInRange};
 ghost use Rattle.sums.specs.Sums.{alone, sidesWith, SidesRoom, SidesInRange, sidesIn, sidesPut, sumCount, SumsOf, fluidActs};
 use standard::CASES;
-use standard::Class;
 use standard::KINDS;
 
 // Two sums of each kind: above zero, and below.
@@ -44,17 +43,14 @@ pub fn places_of(kinds: &[u8]) -> [u64; KINDS]
     places
 }
 
-// Whether at most one case of the kind acts, so that its cases are compared; others are added up.
+// Whether at most one case of the kind acts, so that its cases are compared; others are added up. One test of the number, since
+// the pass asks it of every kind.
 pub fn acts_alone(kind: usize) -> bool
     ensures { λ r. ⌜ r ≡ alone (classOf kind) ⌝ }
 {
-    let q = standard::class_of(kind);
-    match q {
-        Class::Always => false,
-        Class::Together => false,
-        Class::Subset => false,
-        Class::OneOf(_) => true,
-        Class::Unknown => false,
+    match kind {
+        6..=13 => true,
+        _ => false,
     }
 }
 

@@ -5,13 +5,13 @@ use mathlib.Core.Path.{_≡_, refl, sym, _∙_, ap}
 use mathlib.Core.List.{List}
 use Rattle.wire.specs.Bytes.{byteAt, wordAt, signed16}
 use Rattle.standard.specs.Rows.{settingsOf}
-use Rattle.refusals.specs.Refusals.{dueSettings, dueFillAt, dueEffectsAt, dueEmptyAt, dueCapacities, dueExtremes, dueSwitch}
+use Rattle.refusals.specs.Refusals.{dueSettings, dueFillAt, dueEffectsAt, dueEmptyAt, dueCapacities, dueExtremes, dueSwitch, dueStraining}
 use Rattle.sheet.specs.declared.Sheet.{Sheet}
 use Rattle.sheet.specs.declared.Answered.{Answered}
 use Rattle.sheet.specs.declared.Answer.{Answer}
 use Rattle.sheet.specs.declared.Answer.the-variants as answer
-use Rattle.sheet.specs.Sheet.{fresh, withKind, withEffects, withCapacities, withSwitch}
-use Rattle.sheet.specs.Edits.{dueFill, dueEffects, dueEmpty, unlessRefused}
+use Rattle.sheet.specs.Sheet.{fresh, withKind, withEffects, withCapacities, withSwitch, withStraining}
+use Rattle.sheet.specs.Edits.{dueFill, dueEffects, dueEmpty, dueFactor, unlessRefused}
 use Rattle.sheet.specs.Looks.{extremesAt, utilisationAt, dueUtilisation, lookedExtremes, lookedUtilisation, unlessDue, edited}
 use Rattle.tags.specs.Run.{runOf}
 use Rattle.tags.proofs.Laws.{extremes-ran, utilisation-ran}
@@ -54,3 +54,7 @@ module _ (s : Sheet) (b : List ℕ) {b0 : ℕ} (e0 : b0 ≡ byteAt b 0) where
   pub switch-arm : {a : Answered} → a ≡ edited (unlessRefused (dueSwitch b0) s (withSwitch s b0)) → a ≡ runOf s 8 b
   unfolding runOf unlessRefused dueSwitch
   switch-arm h = h ∙ rw e0
+
+pub straining-arm : (s : Sheet) (b : List ℕ) {w : ℕ} {a : Answered} → w ≡ wordAt b 0 → a ≡ edited (unlessRefused (dueFactor s w) s (withStraining s w)) → a ≡ runOf s 9 b
+unfolding runOf unlessRefused dueStraining
+straining-arm s b e h = h ∙ rw e

@@ -11,13 +11,13 @@ use Rattle.wire.specs.Bytes.{byteAt, wordAt, signed16}
 use Rattle.standard.specs.Rows.{settingsOf}
 use Rattle.sheet.specs.declared.Sheet.{Sheet}
 use Rattle.sheet.specs.declared.Answered.{Answered}
-use Rattle.sheet.specs.Sheet.{fresh, withKind, withEffects, withCapacities, withSwitch}
-use Rattle.refusals.specs.Refusals.{firstDue, dueSettings, dueFillAt, dueEffectsAt, dueEmptyAt, dueCapacities, dueExtremes, dueUtilisationAt, dueSwitch}
-use Rattle.sheet.specs.Edits.{dueFill, dueEffects, dueEmpty, unlessRefused}
+use Rattle.sheet.specs.Sheet.{fresh, withKind, withEffects, withCapacities, withSwitch, withStraining}
+use Rattle.refusals.specs.Refusals.{firstDue, dueSettings, dueFillAt, dueEffectsAt, dueEmptyAt, dueCapacities, dueExtremes, dueUtilisationAt, dueSwitch, dueStraining}
+use Rattle.sheet.specs.Edits.{dueFill, dueEffects, dueEmpty, dueFactor, unlessRefused}
 use Rattle.sheet.specs.Looks.{lookedExtremes, lookedUtilisation, edited}
 use Rattle.refusals.proofs.Fits.{inside}
 use native.Mathlib.Omega.{arith}
-use Rattle.tags.specs.Tags.{unknownTag, extremesTag, utilisationTag, switchTag, tags}
+use Rattle.tags.specs.Tags.{unknownTag, extremesTag, utilisationTag, strainingTag, Tag, tags, tagAt}
 use Rattle.tags.specs.Run.{ranBy, runOf}
 
 -- a look leaves the sheet, refused or not
@@ -32,6 +32,26 @@ extremes-ran s b = ap (λ (x : Sheet). record { answer = ranBy extremesTag s b .
 pub utilisation-ran : (s : Sheet) (b : List ℕ) → ranBy utilisationTag s b ≡ lookedUtilisation s (byteAt b 0)
 unfolding lookedUtilisation dueUtilisationAt
 utilisation-ran s b = ap (λ (x : Sheet). record { answer = ranBy utilisationTag s b .answer; sheet = x }) (either-way (eqb (firstDue (utilisationTag .refusals s b)) 0) s)
+
+-- what holds of each tag of the table holds of the tag of a field
+pub by-tags : (P : Tag → Type 0) → P (getD tags 0 strainingTag) → P (getD tags 1 strainingTag) → P (getD tags 2 strainingTag) → P (getD tags 3 strainingTag) →
+    P (getD tags 4 strainingTag) → P (getD tags 5 strainingTag) → P (getD tags 6 strainingTag) → P (getD tags 7 strainingTag) → P strainingTag → (tag : ℕ) → P (tagAt tag)
+by-tags P p1 p2 p3 p4 p5 p6 p7 p8 p9 tag = at (tag - 1)
+  where
+    ninth : (k : ℕ) → P (getD (strainingTag ∷ []) k strainingTag)
+    ninth zero = p9
+    ninth (suc k) = p9
+
+    at : (k : ℕ) → P (getD tags k strainingTag)
+    at zero = p1
+    at (suc zero) = p2
+    at (suc (suc zero)) = p3
+    at (suc (suc (suc zero))) = p4
+    at (suc (suc (suc (suc zero)))) = p5
+    at (suc (suc (suc (suc (suc zero))))) = p6
+    at (suc (suc (suc (suc (suc (suc zero)))))) = p7
+    at (suc (suc (suc (suc (suc (suc (suc zero))))))) = p8
+    at (suc (suc (suc (suc (suc (suc (suc (suc k)))))))) = ninth k
 
 -- what holds of each line of the table of tags holds of the field that runs
 module _ (P : Answered → Type 0) (s : Sheet) (tag : ℕ) (b : List ℕ) where
@@ -48,29 +68,17 @@ module _ (P : Answered → Type 0) (s : Sheet) (tag : ℕ) (b : List ℕ) where
       P (edited (unlessRefused (dueEmpty s b0) s (withKind s b0 0))) →
       P (edited (unlessRefused (dueCapacities b0 (wordAt b 1) (wordAt b 3) (wordAt b 5)) s (withCapacities s b0 (wordAt b 1) (wordAt b 3) (wordAt b 5)))) →
       P (lookedExtremes s b0 b1) → P (lookedUtilisation s b0) →
-      P (edited (unlessRefused (dueSwitch b0) s (withSwitch s b0))) → P (runOf s tag b)
-  unfolding runOf unlessRefused dueSettings dueFillAt dueEffectsAt dueEmptyAt dueCapacities dueSwitch
-  run-by p1 p2 p3 p4 p5 p6 p7 p8 = at (tag - 1)
-    where
-      eighth : (k : ℕ) → P (ranBy (getD (switchTag ∷ []) k switchTag) s b)
-      eighth zero = p8
-      eighth (suc k) = p8
-
-      at : (k : ℕ) → P (ranBy (getD tags k switchTag) s b)
-      at zero = p1
-      at (suc zero) = p2
-      at (suc (suc zero)) = p3
-      at (suc (suc (suc zero))) = p4
-      at (suc (suc (suc (suc zero)))) = p5
-      at (suc (suc (suc (suc (suc zero))))) = subst P (sym (extremes-ran s b)) p6
-      at (suc (suc (suc (suc (suc (suc zero)))))) = subst P (sym (utilisation-ran s b)) p7
-      at (suc (suc (suc (suc (suc (suc (suc k))))))) = eighth k
+      P (edited (unlessRefused (dueSwitch b0) s (withSwitch s b0))) →
+      P (edited (unlessRefused (dueFactor s (wordAt b 0)) s (withStraining s (wordAt b 0)))) → P (runOf s tag b)
+  unfolding runOf unlessRefused dueSettings dueFillAt dueEffectsAt dueEmptyAt dueCapacities dueSwitch dueStraining
+  run-by p1 p2 p3 p4 p5 p6 p7 p8 p9 =
+      by-tags (λ t. P (ranBy t s b)) p1 p2 p3 p4 p5 (subst P (sym (extremes-ran s b)) p6) (subst P (sym (utilisation-ran s b)) p7) p8 p9 tag
 
 -- the arm of the match that is left
-pub last-tag : (tag : ℕ) → unknownTag tag ≡ false → (tag ≡ 1 → ⊥) → (tag ≡ 2 → ⊥) → (tag ≡ 3 → ⊥) → (tag ≡ 4 → ⊥) → (tag ≡ 5 → ⊥) → (tag ≡ 6 → ⊥) → (tag ≡ 7 → ⊥) → tag ≡ 8
-last-tag tag e n1 n2 n3 n4 n5 n6 n7 =
-    let k = inside tag 8 e in
-    within (k .1) (past 7 (past 6 (past 5 (past 4 (past 3 (past 2 (past 1 (k .0) n1) n2) n3) n4) n5) n6) n7)
+pub last-tag : (tag : ℕ) → unknownTag tag ≡ false → (tag ≡ 1 → ⊥) → (tag ≡ 2 → ⊥) → (tag ≡ 3 → ⊥) → (tag ≡ 4 → ⊥) → (tag ≡ 5 → ⊥) → (tag ≡ 6 → ⊥) → (tag ≡ 7 → ⊥) → (tag ≡ 8 → ⊥) → tag ≡ 9
+last-tag tag e n1 n2 n3 n4 n5 n6 n7 n8 =
+    let k = inside tag 9 e in
+    within (k .1) (past 8 (past 7 (past 6 (past 5 (past 4 (past 3 (past 2 (past 1 (k .0) n1) n2) n3) n4) n5) n6) n7) n8)
   where
-    within : tag ≤ 8 → 8 ≤ tag → tag ≡ 8
+    within : tag ≤ 9 → 9 ≤ tag → tag ≡ 9
     within a b = omega arith

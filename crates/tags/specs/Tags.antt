@@ -6,11 +6,11 @@ use lib.Dec.{eqb, ltb}
 use lib.ListN.{length, getD}
 use Rattle.wire.specs.Bytes.{byteAt, wordAt, signed16}
 use Rattle.standard.specs.Rows.{settingsOf}
-use Rattle.refusals.specs.Refusals.{Refusal, settingsRefusals, fillRefusals, effectsRefusals, emptyRefusals, capacitiesRefusals, extremesRefusals, utilisationRefusals, switchRefusals}
+use Rattle.refusals.specs.Refusals.{Refusal, settingsRefusals, fillRefusals, effectsRefusals, emptyRefusals, capacitiesRefusals, extremesRefusals, utilisationRefusals, switchRefusals, strainingRefusals}
 use Rattle.sheet.specs.declared.Sheet.{Sheet}
 use Rattle.sheet.specs.declared.Answer.{Answer}
 use Rattle.sheet.specs.declared.Answer.the-variants as answer
-use Rattle.sheet.specs.Sheet.{kindAt, capacityAt, fresh, withKind, withEffects, withCapacities, withSwitch}
+use Rattle.sheet.specs.Sheet.{kindAt, capacityAt, fresh, withKind, withEffects, withCapacities, withSwitch, withStraining}
 use Rattle.sheet.specs.Looks.{extremesAt, utilisationAt}
 
 -- what a tag says: the length of its body; by the sheet and the body, the refusals in their order (SCOPE 7.2), and where none is due the
@@ -72,9 +72,13 @@ utilisationTag =
 abbrev pub switchTag : Tag
 switchTag = edit 1 (λ s b. switchRefusals (byteAt b 0)) (λ s b. withSwitch s (byteAt b 0))
 
+-- 09: the factor of T
+abbrev pub strainingTag : Tag
+strainingTag = edit 2 (λ s b. strainingRefusals (s .settings .method) (wordAt b 0)) (λ s b. withStraining s (wordAt b 0))
+
 -- from tag 01 on
 abbrev pub tags : List Tag
-tags = restartTag ∷ fillTag ∷ effectsTag ∷ emptyTag ∷ capacitiesTag ∷ extremesTag ∷ utilisationTag ∷ switchTag ∷ []
+tags = restartTag ∷ fillTag ∷ effectsTag ∷ emptyTag ∷ capacitiesTag ∷ extremesTag ∷ utilisationTag ∷ switchTag ∷ strainingTag ∷ []
 
 -- a tag that is none of them, refused with 1 (SCOPE 7.1)
 abbrev pub unknownTag : ℕ → Bool
@@ -82,4 +86,4 @@ unknownTag tag = eqb tag 0 || ltb (length tags) tag
 
 -- what a known tag says (SCOPE 5.2)
 abbrev pub tagAt : ℕ → Tag
-tagAt tag = getD tags (tag - 1) switchTag
+tagAt tag = getD tags (tag - 1) strainingTag

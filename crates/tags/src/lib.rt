@@ -42,6 +42,7 @@ pub fn run(rest: Rest, effects: &mut Effects, tag: u8, body: &[u8]) -> AnsweredR
             let answer = rest.look_utilisation(effects, b0);
             AnsweredRest { answer, rest }
         }
-        _ => rest.switch_ice(b0),
+        8 => rest.switch_ice(b0),
+        _ => rest.set_straining(wire::word(body, 0)),
     }
 }

@@ -236,7 +236,7 @@ module _ (sums : List ℕ) (kind : ℕ → ℕ) (e : ℕ → ℤ) (below : (k : 
   negated-fluid-is = fluid-held kind (λ k. negℤ (e k)) below (λ j. heldAt sums j 1) (λ j. heldAt sums j 0) turned-up turned-down
 
 -- ---- the sizes of the terms
-total : (H : ℕ → ℕ) (m : ℕ) → sum kindCount H ≤ m → H 1 + H 2 + H 3 + H 4 + H 5 + H 6 + H 7 + H 8 + H 9 + H 10 + H 11 + H 12 + H 13 ≤ m
+total : (H : ℕ → ℕ) (m : ℕ) → sum kindCount H ≤ m → H 1 + H 2 + H 3 + H 4 + H 5 + H 6 + H 7 + H 8 + H 9 + H 10 + H 11 + H 12 + H 13 + H 14 ≤ m
 unfolding sum
 total H m h = omega arith
 
@@ -253,7 +253,7 @@ module _ (n : ℕ) (kind p : ℕ → ℕ) (below : (k : ℕ) → kind k < kindCo
         sum-most n effectMost (λ k. 1 * p k) (λ k l. omega (arith, small k)),
       )
 
-  held-total : (u : ℕ → ℕ) → Holds n kind p u → u 1 + u 2 + u 3 + u 4 + u 5 + u 6 + u 7 + u 8 + u 9 + u 10 + u 11 + u 12 + u 13 ≤ n * effectMost
+  held-total : (u : ℕ → ℕ) → Holds n kind p u → u 1 + u 2 + u 3 + u 4 + u 5 + u 6 + u 7 + u 8 + u 9 + u 10 + u 11 + u 12 + u 13 + u 14 ≤ n * effectMost
   unfolding Holds
   held-total u h =
       omega (
@@ -272,10 +272,11 @@ module _ (n : ℕ) (kind p : ℕ → ℕ) (below : (k : ℕ) → kind k < kindCo
         h 11 (omega arith) (omega arith),
         h 12 (omega arith) (omega arith),
         h 13 (omega arith) (omega arith),
+        h 14 (omega arith) (omega arith),
       )
 
-small-terms : (u d : ℕ → ℕ) (m : ℕ) → u 1 + u 2 + u 3 + u 4 + u 5 + u 6 + u 7 + u 8 + u 9 + u 10 + u 11 + u 12 + u 13 ≤ m →
-    d 1 + d 2 + d 3 + d 4 + d 5 + d 6 + d 7 + d 8 + d 9 + d 10 + d 11 + d 12 + d 13 ≤ m → m + m ≤ 64 * effectMost → TermsInRange (termsBy u d)
+small-terms : (u d : ℕ → ℕ) (m : ℕ) → u 1 + u 2 + u 3 + u 4 + u 5 + u 6 + u 7 + u 8 + u 9 + u 10 + u 11 + u 12 + u 13 + u 14 ≤ m →
+    d 1 + d 2 + d 3 + d 4 + d 5 + d 6 + d 7 + d 8 + d 9 + d 10 + d 11 + d 12 + d 13 + d 14 ≤ m → m + m ≤ 64 * effectMost → TermsInRange (termsBy u d)
 unfolding termsBy
 small-terms u d m hu hd l =
     record {
@@ -289,5 +290,5 @@ pub terms-in-range : (sums : List ℕ) (kind : ℕ → ℕ) (e : ℕ → ℤ) �
 terms-in-range sums kind e below h small over under a b =
     small-terms (λ j. heldAt sums j over) (λ j. heldAt sums j under) (caseCount * effectMost) (side over a) (side under b) (omega arith)
   where
-    side : (t : ℕ) → t < 2 → let u : ℕ → ℕ = λ j. heldAt sums j t in u 1 + u 2 + u 3 + u 4 + u 5 + u 6 + u 7 + u 8 + u 9 + u 10 + u 11 + u 12 + u 13 ≤ caseCount * effectMost
+    side : (t : ℕ) → t < 2 → let u : ℕ → ℕ = λ j. heldAt sums j t in u 1 + u 2 + u 3 + u 4 + u 5 + u 6 + u 7 + u 8 + u 9 + u 10 + u 11 + u 12 + u 13 + u 14 ≤ caseCount * effectMost
     side t m = held-total caseCount kind (λ k. partOf t (e k)) below (λ k. omega (arith, part-le t (e k), small k)) (λ j. heldAt sums j t) (holds sums kind e below h t m)

@@ -70,13 +70,13 @@ joined : (own line groups joint m a b c d e : ℕ) → own + joint ≡ line → 
 joined own line groups joint m a b c d e h k = omega (arith, h, k)
 
 -- three among kinds that give nothing
-amid : (z a b c : ℕ) → z ≡ 0 → max (max (max (max (max (max (max (max z a) b) c) 0) 0) 0) 0) 0 ≡ max (max a b) c
+amid : (z a b c : ℕ) → z ≡ 0 → max (max (max (max (max (max (max (max (max z a) b) c) 0) 0) 0) 0) 0) 0 ≡ max (max a b) c
 amid z a b c e = after (max (max (max z a) b) c) ∙ ap (λ (x : ℕ). max (max x b) c) before
   where
     before : max z a ≡ a
     before = omega arith
 
-    after : (x : ℕ) → max (max (max (max (max x 0) 0) 0) 0) 0 ≡ x
+    after : (x : ℕ) → max (max (max (max (max (max x 0) 0) 0) 0) 0) 0 ≡ x
     after x = omega arith
 
 module _ (s : Settings) (row : ℕ) (u d : ℕ → ℕ) where
@@ -92,11 +92,11 @@ module _ (s : Settings) (row : ℕ) (u d : ℕ → ℕ) where
   unfolding factorOf
   roof-one = refl
 
-  loss-is : lossBy s row d ≡ 0 + f 1 * d 1 + f 2 * 0 + f 3 * 0 + lowerOf s row 3 * d 3 + f 5 * 0 + f 9 * 0 + f 10 * 0 + f 11 * 0 + f 12 * 0 + f 13 * 0
+  loss-is : lossBy s row d ≡ 0 + f 1 * d 1 + f 2 * 0 + f 3 * 0 + lowerOf s row 3 * d 3 + f 5 * 0 + f 14 * 0 + f 9 * 0 + f 10 * 0 + f 11 * 0 + f 12 * 0 + f 13 * 0
   unfolding sum leastOf lowerOf classOf
   loss-is = omega arith
 
-  own-is : sum kindCount (λ j. greatestOf s row j * u j) ≡ f 1 * u 1 + f 3 * u 3 + f 4 * u 4 + f 5 * u 5
+  own-is : sum kindCount (λ j. greatestOf s row j * u j) ≡ f 1 * u 1 + f 3 * u 3 + f 4 * u 4 + f 5 * u 5 + f 14 * u 14
   unfolding sum greatestOf classOf
   own-is = omega arith
 
@@ -148,14 +148,14 @@ module _ (s : Settings) (row : ℕ) (u d : ℕ → ℕ) where
   groups-are = omega arith
 
   own-line : sum kindCount (λ j. greatestOf s row j * u j) + sum kindCount (λ j. jointOf s row j * up (excess u d j))
-      ≡ 0 + f 1 * u 1 + f 2 * up (excess u d 2) + f 3 * (u 3 + u 4) + lowerOf s row 3 * 0 + f 5 * u 5
+      ≡ 0 + f 1 * u 1 + f 2 * up (excess u d 2) + f 3 * (u 3 + u 4) + lowerOf s row 3 * 0 + f 5 * u 5 + f 14 * u 14
   own-line = omega (arith, own-is, joint-is, ap (λ (x : ℕ). x * u 4) earth-one)
 
   roof-line : most kindCount (byGroup s row u 0) ≡ max (0 + f 6 * max (u 6) (u 8)) (0 + f 7 * u 7)
   roof-line = omega (arith, roof-is, times-max (f 6) (u 6) (u 8), ap (λ (x : ℕ). x * u 8) roof-one)
 
   gain-is : gainBy s row u d ≡
-      0 + f 1 * u 1 + f 2 * up (excess u d 2) + f 3 * (u 3 + u 4) + lowerOf s row 3 * 0 + f 5 * u 5 + max (0 + f 6 * max (u 6) (u 8)) (0 + f 7 * u 7)
+      0 + f 1 * u 1 + f 2 * up (excess u d 2) + f 3 * (u 3 + u 4) + lowerOf s row 3 * 0 + f 5 * u 5 + f 14 * u 14 + max (0 + f 6 * max (u 6) (u 8)) (0 + f 7 * u 7)
       + f 9 * u 9 + f 10 * u 10 + f 11 * u 11 + f 12 * u 12 + f 13 * u 13
   gain-is =
       joined _ _ _ _ (max (0 + f 6 * max (u 6) (u 8)) (0 + f 7 * u 7)) (f 9 * u 9) (f 10 * u 10) (f 11 * u 11) (f 12 * u 12) (f 13 * u 13) own-line (groups-are ∙ (λ i. roof-line i + wind-is i + quake-is i + flood-is i + ice-is i + icewind-is i))
@@ -169,7 +169,8 @@ module _ (s : Settings) (row : ℕ) (u d : ℕ → ℕ) where
       let earth = with-term (f 3) fluid (just (u 3 + u 4)) in
       let lowered = with-term (lowerOf s row 3) earth (none-less (d 3)) in
       let live = with-term (f 5) lowered (just (u 5)) in
-      let roof = with-pos (max (0 + f 6 * max (u 6) (u 8)) (0 + f 7 * u 7)) live in
+      let straining = with-term (f 14) live (just (u 14)) in
+      let roof = with-pos (max (0 + f 6 * max (u 6) (u 8)) (0 + f 7 * u 7)) straining in
       let wind = with-term (f 9) roof (just (u 9)) in
       let quake = with-term (f 10) wind (just (u 10)) in
       let flood = with-term (f 11) quake (just (u 11)) in

@@ -20,6 +20,7 @@ termsBy u d =
       earth = pos (u 3) +ℤ pos (u 4);
       lowered = negℤ (pos (d 3));
       live = pos (u 5);
+      straining = pos (u 14);
       roof = pos (max (u 6) (u 8));
       snow = pos (u 7);
       wind = pos (u 9);
@@ -38,7 +39,7 @@ singlesSize t = natAbs (t .wind) + natAbs (t .quake) + natAbs (t .flood) + natAb
 
 abbrev pub sizeOf : Terms → ℕ
 sizeOf t =
-    natAbs (t .dead) + natAbs (t .fluid) + natAbs (t .earth) + natAbs (t .lowered) + natAbs (t .live)
+    natAbs (t .dead) + natAbs (t .fluid) + natAbs (t .earth) + natAbs (t .lowered) + natAbs (t .live) + natAbs (t .straining)
     + natAbs (t .roof) + natAbs (t .snow) + singlesSize t
 
 pub record TermsInRange (t : Terms) : Type 0 where
@@ -58,7 +59,7 @@ pub record Gained (r total : ℤ) (f : ℕ) (x : ℤ) : Type 0 where
 unfoldable pub ownOf : Settings → ℕ → Terms → ℤ
 ownOf s row t =
     pos 0 +ℤ pos (factorOf s row 1) *ℤ t .dead +ℤ pos (factorOf s row 2) *ℤ t .fluid +ℤ pos (factorOf s row 3) *ℤ t .earth
-    +ℤ pos (lowerOf s row 3) *ℤ t .lowered +ℤ pos (factorOf s row 5) *ℤ t .live
+    +ℤ pos (lowerOf s row 3) *ℤ t .lowered +ℤ pos (factorOf s row 5) *ℤ t .live +ℤ pos (factorOf s row 14) *ℤ t .straining
 
 -- with the groups of one kind each
 unfoldable pub singlesOf : Settings → ℕ → ℤ → Terms → ℤ

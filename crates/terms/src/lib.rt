@@ -2,6 +2,7 @@ ghost use mathlib.Core.Path.{_≡_};
 ghost use Prim.Native.Nat.{ℕ, _+_, _*_, _<_, _≤_, _^_, min};
 ghost use lib.IntN.{ℤ, pos, negℤ, _+ℤ_, _*ℤ_, natAbs};
 ghost use Rattle.standard.specs.Kinds.{kindCount};
+ghost use Rattle.standard.specs.Range.{SettingsInRange};
 ghost use Rattle.standard.specs.Rows.{rowCount, factorOf};
 ghost use Rattle.standard.specs.Columns.{rowTable};
 ghost use Rattle.optimum.specs.Row.{lowerOf};
@@ -11,13 +12,14 @@ use rows::RowTable;
 use standard::Settings;
 
 // What the factors of a row multiply: the cases of D, of F where their total is above zero, of Hp and Hv, of Hp at the low
-// factor, of L, then the greatest of Lr and R, of S, of W, of E, of Fa, of Di and of Wi.
+// factor, of L, of T, then the greatest of Lr and R, of S, of W, of E, of Fa, of Di and of Wi.
 pub struct Terms {
     pub dead: i64,
     pub fluid: i64,
     pub earth: i64,
     pub lowered: i64,
     pub live: i64,
+    pub straining: i64,
     pub roof: i64,
     pub snow: i64,
     pub wind: i64,
@@ -57,6 +59,7 @@ pub fn terms_of(sums: &[u64], over: usize, under: usize) -> Terms
         earth: integers::added(held(sums, 3, over), held(sums, 4, over)),
         lowered: integers::negated(held(sums, 3, under)),
         live: held(sums, 5, over),
+        straining: held(sums, 14, over),
         roof: integers::greater(held(sums, 6, over), held(sums, 8, over)),
         snow: held(sums, 7, over),
         wind: held(sums, 9, over),
@@ -69,7 +72,7 @@ pub fn terms_of(sums: &[u64], over: usize, under: usize) -> Terms
 
 // A term at the factor of a kind, added to what there is.
 fn with_term(total: i64, table: &RowTable, s: Settings, row: usize, kind: usize, x: i64) -> i64
-    requires { ⌜ (row < rowCount) × (0 < kind) × (kind < kindCount) × (now table ≡ rowTable) × (natAbs total + factorMost * natAbs x < 2 ^ 63) ⌝ }
+    requires { ⌜ (row < rowCount) × (0 < kind) × (kind < kindCount) × (now table ≡ rowTable) × (natAbs total + factorMost * natAbs x < 2 ^ 63) × SettingsInRange s ⌝ }
     ensures { λ r. ⌜ Gained r total (factorOf s row kind) x ⌝ }
 {
     let f = rows::factor(table, s, row, kind);
@@ -84,7 +87,7 @@ fn lower(a: u16, b: u16) -> u16
 
 // The same at the lower factor of Hp.
 fn with_lowered(total: i64, table: &RowTable, s: Settings, row: usize, x: i64) -> i64
-    requires { ⌜ (row < rowCount) × (now table ≡ rowTable) × (natAbs total + factorMost * natAbs x < 2 ^ 63) ⌝ }
+    requires { ⌜ (row < rowCount) × (now table ≡ rowTable) × (natAbs total + factorMost * natAbs x < 2 ^ 63) × SettingsInRange s ⌝ }
     ensures { λ r. ⌜ Gained r total (lowerOf s row 3) x ⌝ }
 {
     let f = rows::factor(table, s, row, 3);
@@ -94,19 +97,20 @@ fn with_lowered(total: i64, table: &RowTable, s: Settings, row: usize, x: i64) -
 
 // What the cases that act together give in a row.
 fn own_value(table: &RowTable, s: Settings, row: usize, t: Terms) -> i64
-    requires { ⌜ (row < rowCount) × (now table ≡ rowTable) × TermsInRange t ⌝ }
-    ensures { λ r. ⌜ (r ≡ ownOf s row t) × (natAbs r ≤ factorMost * (natAbs (t .dead) + natAbs (t .fluid) + natAbs (t .earth) + natAbs (t .lowered) + natAbs (t .live))) ⌝ }
+    requires { ⌜ (row < rowCount) × (now table ≡ rowTable) × TermsInRange t × SettingsInRange s ⌝ }
+    ensures { λ r. ⌜ (r ≡ ownOf s row t) × (natAbs r ≤ factorMost * (natAbs (t .dead) + natAbs (t .fluid) + natAbs (t .earth) + natAbs (t .lowered) + natAbs (t .live) + natAbs (t .straining))) ⌝ }
 {
     let dead = with_term(0, table, s, row, 1, t.dead);
     let fluid = with_term(dead, table, s, row, 2, t.fluid);
     let earth = with_term(fluid, table, s, row, 3, t.earth);
     let lowered = with_lowered(earth, table, s, row, t.lowered);
-    with_term(lowered, table, s, row, 5, t.live)
+    let live = with_term(lowered, table, s, row, 5, t.live);
+    with_term(live, table, s, row, 14, t.straining)
 }
 
 // What the groups of one kind each add in a row.
 fn with_singles(total: i64, table: &RowTable, s: Settings, row: usize, t: Terms) -> i64
-    requires { ⌜ (row < rowCount) × (now table ≡ rowTable) × (natAbs total + factorMost * singlesSize t < 2 ^ 63) ⌝ }
+    requires { ⌜ (row < rowCount) × (now table ≡ rowTable) × (natAbs total + factorMost * singlesSize t < 2 ^ 63) × SettingsInRange s ⌝ }
     ensures { λ r. ⌜ r ≡ singlesOf s row total t ⌝ }
 {
     let wind = with_term(total, table, s, row, 9, t.wind);
@@ -118,7 +122,7 @@ fn with_singles(total: i64, table: &RowTable, s: Settings, row: usize, t: Terms)
 
 // The value of a row: the line as the standard writes it.
 pub fn value_of(table: &RowTable, s: Settings, row: usize, t: Terms) -> i64
-    requires { ⌜ (row < rowCount) × (now table ≡ rowTable) × TermsInRange t ⌝ }
+    requires { ⌜ (row < rowCount) × (now table ≡ rowTable) × TermsInRange t × SettingsInRange s ⌝ }
     ensures { λ r. ⌜ r ≡ valueOf s row t ⌝ }
 {
     let own = own_value(table, s, row, t);

@@ -4,17 +4,17 @@ use Prim.Native.Nat.{ℕ, _≤_}
 use native.Mathlib.Omega.{arith}
 use mathlib.Core.Bool.{Bool, true, false, not, _&&_, _||_}
 use mathlib.Core.List.{List, [], _∷_}
-use mathlib.Core.Logic.{_⊎_, inl, inr}
 use mathlib.Core.Path.{_≡_, refl, ap, subst}
 use lib.Dec.{T, eqb, leb, eqb→eq, leb→le}
 use lib.IntN.{ℤ, pos, negsuc, negℤ}
 use lib.Signed.{_≤ℤ_}
 use lib.ListN.{length, List·getD-eq-default}
 use Rattle.integers.specs.Sums.{sum, sumℤ, most}
-use Rattle.integers.proofs.Tests.{and-left, and-right}
+use Rattle.integers.proofs.Tests.{and-left, and-right, neither}
 use Rattle.standard.specs.declared.Settings.{Settings}
 use Rattle.standard.specs.declared.Capacities.{Capacities}
 use Rattle.standard.specs.Kinds.{classOf}
+use Rattle.standard.specs.Range.{methodOutside, liveOutside, zoneOutside, switchOutside, strainingOutside, SettingsInRange}
 use Rattle.standard.specs.Rows.{factorOf, lowOf, plainRows, floodRows, iceRows, openRows, openRow}
 use Rattle.standard.specs.Combination.{Combination, Admissible, factoredEffect, caseCount, denominatorOf}
 use Rattle.standard.specs.Governing.{Reaches, Maximum, Minimum, Utilisation}
@@ -52,30 +52,35 @@ alike-eq true false t = absurd t
 alike-eq false true t = absurd t
 alike-eq false false t = refl
 
-known : Settings → Bool
-known s = eqb (s .method) 1 || eqb (s .method) 2
+-- some setting is outside its limits
+outsideRange : Settings → Bool
+outsideRange s =
+    methodOutside (s .method) || (liveOutside (s .live) || (zoneOutside (s .zone) || (switchOutside (s .ice) || strainingOutside (s .method) (s .straining))))
 
-known-method : (s : Settings) → T (known s) → (s .method ≡ 1) ⊎ (s .method ≡ 2)
-unfolding known
-known-method s t = go (eqb (s .method) 1) (eqb→eq (s .method) 1) t
-  where
-    go : (b : Bool) → (T b → s .method ≡ 1) → T (b || eqb (s .method) 2) → (s .method ≡ 1) ⊎ (s .method ≡ 2)
-    go true f u = inl (f tt)
-    go false f u = inr (eqb→eq (s .method) 2 u)
+within-range : (s : Settings) → outsideRange s ≡ false → SettingsInRange s
+unfolding outsideRange
+within-range s e =
+    let a = neither (methodOutside (s .method)) _ e in
+    let b = neither (liveOutside (s .live)) _ (a .1) in
+    let c = neither (zoneOutside (s .zone)) _ (b .1) in
+    let d = neither (switchOutside (s .ice)) _ (c .1) in
+    record { method = a .0; live = b .0; zone = c .0; ice = d .0; straining = d .1 }
 
--- a frame that the laws take: a known method, and no more cases than a sheet has
+-- a frame that the laws take: settings in range, and no more cases than a sheet has
 fair : Frame → Bool
-fair f = known (f .settings) && leb (length (f .kinds)) caseCount
+fair f = alike (outsideRange (f .settings)) false && leb (length (f .kinds)) caseCount
 
 module _ (f : Frame) (ok : T (fair f)) where
-  method : (f .settings .method ≡ 1) ⊎ (f .settings .method ≡ 2)
+  range : SettingsInRange (f .settings)
   unfolding fair
-  method = known-method (f .settings) (and-left (known (f .settings)) (leb (length (f .kinds)) caseCount) ok)
+  range =
+      within-range (f .settings)
+      (alike-eq (outsideRange (f .settings)) false (and-left (alike (outsideRange (f .settings)) false) (leb (length (f .kinds)) caseCount) ok))
 
   empty : (k : ℕ) → caseCount ≤ k → kindOf (f .kinds) k ≡ 0
   unfolding fair
   empty k l =
-      let m : length (f .kinds) ≤ caseCount = leb→le (length (f .kinds)) caseCount (and-right (known (f .settings)) (leb (length (f .kinds)) caseCount) ok) in
+      let m : length (f .kinds) ≤ caseCount = leb→le (length (f .kinds)) caseCount (and-right (alike (outsideRange (f .settings)) false) (leb (length (f .kinds)) caseCount) ok) in
       List·getD-eq-default (f .kinds) 0 (omega arith)
 
 -- the two extremes and the utilisation of a frame, as they are computed
@@ -130,7 +135,7 @@ greatest-holds : (f : Frame) (v : ℤ) → T (fair f) → T (same (greatest f .v
 greatest-holds f v ok t = (
   namedBy (greatest f),
   subst (Maximum (f .settings) (kindOf (f .kinds)) (listed (f .effects)) (namedBy (greatest f))) (same-eq (greatest f .value) v t)
-      (extreme-maximum (f .settings) (kindOf (f .kinds)) (method f ok) (empty f ok) (listed (f .effects))),
+      (extreme-maximum (f .settings) (kindOf (f .kinds)) (range f ok) (empty f ok) (listed (f .effects))),
 )
 
 -- what is computed holds over all admissible combinations
@@ -140,7 +145,7 @@ holds f (maximum v) ok t = greatest-holds f v ok t
 holds f (minimum v) ok t = (
   namedBy (least f),
   subst (Minimum (f .settings) (kindOf (f .kinds)) (listed (f .effects)) (namedBy (least f))) (same-eq (least f .value) v t)
-      (extreme-minimum (f .settings) (kindOf (f .kinds)) (method f ok) (empty f ok) (listed (f .effects))),
+      (extreme-minimum (f .settings) (kindOf (f .kinds)) (range f ok) (empty f ok) (listed (f .effects))),
 )
 holds f (maximumIn v rows) ok t =
     let m = greatest-holds f v ok (and-left (same (greatest f .value) v) (reached f v rows) t) in
@@ -155,7 +160,7 @@ holds f (utilisation p n d pass) ok t =
           (eqb→eq (u .denominator) d (and-left (eqb (u .denominator) d) (alike (u .pass) pass) r))
           (subst (λ (x : ℕ). Utilisation (f .settings) (kindOf (f .kinds)) (onlyN (f .effects)) p (namedIn u) x (u .denominator) (u .pass))
           (eqb→eq (u .numerator) n (and-left (eqb (u .numerator) n) (eqb (u .denominator) d && alike (u .pass) pass) t))
-          (utilisation-greatest (f .settings) (kindOf (f .kinds)) (method f ok) (empty f ok) (onlyN (f .effects)) p))),
+          (utilisation-greatest (f .settings) (kindOf (f .kinds)) (range f ok) (empty f ok) (onlyN (f .effects)) p))),
     )
 
 checks : List Entry → Bool
@@ -172,7 +177,7 @@ each-holds (x ∷ xs) t =
     )
 
 table-checks : T (checks worked)
-unfolding checks fair known reached meets same alike extremeIn governingOf bestOf bestOver bestAmong bestFrom rowMaximum greatestOf leastOf lowerOf groupOf jointOf totalOf classOf factorOf lowOf plainRows floodRows iceRows openRows openRow patternOf peakOf utilisedOf denominatorOf sum sumℤ most
+unfolding checks fair outsideRange reached meets same alike extremeIn governingOf bestOf bestOver bestAmong bestFrom rowMaximum greatestOf leastOf lowerOf groupOf jointOf totalOf classOf factorOf lowOf plainRows floodRows iceRows openRows openRow patternOf peakOf utilisedOf denominatorOf sum sumℤ most
 table-checks = tt
 
 pub worked-by-hand : WorkedByHand

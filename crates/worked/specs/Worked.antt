@@ -1,5 +1,5 @@
--- SCOPE 11.1 and 11.3: frames P1 to P10 and the pairs with every sign turned, at one station with N only, as one table; between them
--- further frames, each for a sentence of SCOPE 3 or 4 that none of these tries.
+-- SCOPE 11.1, 11.3 and 11.4: frames P1 to P10, the pairs with every sign turned and the frames with T, at one station with N only, as one
+-- table; between them further frames, each for a sentence of SCOPE 3 or 4 that none of these tries.
 use Prim.Native.Nat.{ℕ}
 use mathlib.Core.Bool.{Bool, true, false, cond}
 use mathlib.Core.List.{List, [], _∷_}
@@ -7,7 +7,7 @@ use mathlib.Core.Path.{_≡_}
 use lib.Dec.{eqb}
 use lib.IntN.{ℤ, pos, negℤ}
 use Rattle.standard.specs.declared.Settings.{Settings}
-use Rattle.standard.specs.Rows.{settingsOf, switched}
+use Rattle.standard.specs.Rows.{settingsOf, switched, strained}
 use Rattle.standard.specs.declared.Capacities.{Capacities}
 use Rattle.standard.specs.Combination.{Combination}
 use Rattle.standard.specs.Governing.{Maximum, Minimum, Utilisation}
@@ -77,12 +77,19 @@ Di = 12
 abbrev pub Wi : ℕ
 Wi = 13
 
+abbrev pub T : ℕ
+T = 14
+
 abbrev pub frame : (method live zone : ℕ) → List ℕ → List ℤ → Frame
 frame method live zone kinds effects = record { settings = settingsOf method live zone; kinds = kinds; effects = effects }
 
 -- with the ice rows switched on
 abbrev pub icy : Frame → Frame
 icy f = record { settings = switched 1 (f .settings); kinds = f .kinds; effects = f .effects }
+
+-- with another factor of T
+abbrev pub withFactor : ℕ → Frame → Frame
+withFactor factor f = record { settings = strained factor (f .settings); kinds = f .kinds; effects = f .effects }
 
 abbrev pub minus : ℕ → ℤ
 minus n = negℤ (pos n)
@@ -170,6 +177,37 @@ worked =
     -- a utilisation with the tank empty
     ∷ (frame 1 0 0 (E ∷ F ∷ []) (pos 100 ∷ minus 30 ∷ []) says utilisation (record { n = 100; y = 10; z = 10 }) 10000000 10000000 true)
     ∷ (frame 1 0 0 (E ∷ F ∷ []) (pos 100 ∷ minus 30 ∷ []) says utilisation (record { n = 99; y = 10; z = 10 }) 10000000 9900000 false)
+    -- self-straining load (SCOPE 11.4): the sheet's factor in every row but 1 and 21
+    ∷ (frame 1 0 0 (T ∷ []) (pos 100 ∷ []) says maximumIn (pos 100000) (2 ∷ 3 ∷ 4 ∷ 5 ∷ 6 ∷ 7 ∷ 8 ∷ []))
+    ∷ (withFactor 2000 (frame 1 0 0 (T ∷ []) (pos 100 ∷ [])) says maximumIn (pos 200000) (2 ∷ 3 ∷ 4 ∷ 5 ∷ 6 ∷ 7 ∷ 8 ∷ []))
+    ∷ (frame 2 0 0 (T ∷ []) (pos 100 ∷ []) says maximumIn (pos 100000) (22 ∷ 23 ∷ 24 ∷ 25 ∷ 26 ∷ 27 ∷ 28 ∷ 29 ∷ 30 ∷ []))
+    ∷ (withFactor 750 (frame 2 0 0 (T ∷ []) (pos 100 ∷ [])) says maximumIn (pos 75000) (22 ∷ 23 ∷ 24 ∷ 25 ∷ 26 ∷ 27 ∷ 28 ∷ 29 ∷ 30 ∷ []))
+    ∷ (frame 1 0 0 (D ∷ T ∷ []) (pos 100 ∷ pos 10 ∷ []) says maximumIn (pos 140000) (1 ∷ []))
+    ∷ (frame 2 0 0 (D ∷ Hp ∷ T ∷ []) (pos 100 ∷ minus 50 ∷ pos 20 ∷ []) says maximumIn (pos 100000) (21 ∷ []))
+    ∷ (withFactor 1500 (frame 1 0 0 (D ∷ T ∷ []) (pos 100 ∷ pos 30 ∷ [])) says maximumIn (pos 165000) (2 ∷ 3 ∷ 4 ∷ 5 ∷ 6 ∷ []))
+    -- T opposes: any subset of its cases acts
+    ∷ (frame 1 0 0 (D ∷ L ∷ T ∷ []) (pos 100 ∷ pos 50 ∷ minus 30 ∷ []) says maximumIn (pos 200000) (2 ∷ []))
+    ∷ (frame 1 0 0 (D ∷ L ∷ T ∷ []) (pos 100 ∷ pos 50 ∷ minus 30 ∷ []) says minimum (pos 60000))
+    ∷ (withFactor 2000 (frame 1 0 0 (D ∷ L ∷ T ∷ []) (pos 100 ∷ pos 50 ∷ minus 30 ∷ [])) says maximumIn (pos 200000) (2 ∷ []))
+    ∷ (withFactor 2000 (frame 1 0 0 (D ∷ L ∷ T ∷ []) (pos 100 ∷ pos 50 ∷ minus 30 ∷ [])) says minimum (pos 30000))
+    ∷ (withFactor 750 (frame 2 0 0 (D ∷ L ∷ T ∷ []) (pos 100 ∷ pos 50 ∷ minus 40 ∷ [])) says maximumIn (pos 150000) (22 ∷ []))
+    ∷ (withFactor 750 (frame 2 0 0 (D ∷ L ∷ T ∷ []) (pos 100 ∷ pos 50 ∷ minus 40 ∷ [])) says minimum (pos 30000))
+    ∷ (withFactor 1500 (frame 1 0 0 (T ∷ T ∷ T ∷ []) (pos 50 ∷ minus 20 ∷ pos 30 ∷ [])) says maximum (pos 120000))
+    ∷ (withFactor 1500 (frame 1 0 0 (T ∷ T ∷ T ∷ []) (pos 50 ∷ minus 20 ∷ pos 30 ∷ [])) says minimum (minus 30000))
+    -- T in flood rows and in ice rows; its factor reaches no other kind
+    ∷ (withFactor 2000 (frame 1 0 1 (D ∷ Fa ∷ W ∷ T ∷ []) (minus 100 ∷ pos 100 ∷ pos 100 ∷ pos 10 ∷ [])) says maximumIn (pos 230000) (10 ∷ []))
+    ∷ (withFactor 750 (frame 2 0 2 (Fa ∷ T ∷ []) (pos 100 ∷ pos 100 ∷ [])) says maximumIn (pos 150000) (36 ∷ 37 ∷ 38 ∷ 39 ∷ 40 ∷ []))
+    ∷ (withFactor 1500 (icy (frame 1 0 0 (Di ∷ Wi ∷ T ∷ []) (pos 100 ∷ pos 100 ∷ pos 100 ∷ []))) says maximumIn (pos 350000) (14 ∷ 15 ∷ []))
+    ∷ (withFactor 750 (icy (frame 2 0 0 (L ∷ Di ∷ T ∷ []) (pos 100 ∷ pos 100 ∷ pos 10 ∷ []))) says maximumIn (pos 177500) (41 ∷ []))
+    ∷ (withFactor 2000 p2 says maximum (pos 250000))
+    -- a utilisation at a factor of T, and at one thousandth more
+    ∷ (withFactor 1500 (frame 1 0 0 (T ∷ []) (pos 100 ∷ [])) says utilisation (record { n = 150; y = 10; z = 10 }) 15000000 15000000 true)
+    ∷ (withFactor 1501 (frame 1 0 0 (T ∷ []) (pos 100 ∷ [])) says utilisation (record { n = 150; y = 10; z = 10 }) 15010000 15000000 false)
+    -- a pair with T, and with the sign of every effect turned
+    ∷ (withFactor 2000 (frame 1 0 0 (D ∷ T ∷ T ∷ []) (pos 100 ∷ minus 30 ∷ pos 50 ∷ [])) says maximum (pos 220000))
+    ∷ (withFactor 2000 (frame 1 0 0 (D ∷ T ∷ T ∷ []) (pos 100 ∷ minus 30 ∷ pos 50 ∷ [])) says minimum (pos 30000))
+    ∷ (withFactor 2000 (frame 1 0 0 (D ∷ T ∷ T ∷ []) (minus 100 ∷ pos 30 ∷ minus 50 ∷ [])) says maximum (minus 30000))
+    ∷ (withFactor 2000 (frame 1 0 0 (D ∷ T ∷ T ∷ []) (minus 100 ∷ pos 30 ∷ minus 50 ∷ [])) says minimum (minus 220000))
     -- P2, P5 and E -100, F 30 with the sign of every effect turned
     ∷ (frame 1 0 0 (p2 .kinds) (minus 100 ∷ minus 50 ∷ pos 200 ∷ minus 80 ∷ []) says maximum (pos 110000))
     ∷ (frame 1 0 0 (p2 .kinds) (minus 100 ∷ minus 50 ∷ pos 200 ∷ minus 80 ∷ []) says minimum (minus 250000))

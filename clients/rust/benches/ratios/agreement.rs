@@ -23,8 +23,8 @@ struct Compared {
     refusals: BTreeSet<u8>,
 }
 
-/// Compares on sheets of every method, live option and zone, without ice and with it, with 0 to 32 places filled, and prints how much
-/// was compared.
+/// Compares on sheets of every method, live option and zone, without ice and with it, with several straining factors and 0 to 32 places
+/// filled, and prints how much was compared.
 ///
 /// # Panics
 ///
@@ -38,10 +38,10 @@ pub fn report() {
             }
         }
     }
-    assert_eq!(compared.refusals, (1..=14).collect(), "not every refusal");
+    assert_eq!(compared.refusals, (1..=15).collect(), "not every refusal");
     println!(
         "- Compared before the timing: {} fields, {} of them 06 and 07 answered, on {} sheets of every method, live option and zone, \
-         without ice and with it, with every refusal. The bytes are the same.",
+         without ice and with it, with several straining factors and every refusal. The bytes are the same.",
         compared.fields, compared.looks, compared.sheets
     );
 }
@@ -162,10 +162,15 @@ impl List {
     fn sheet(&mut self, settings: u8, places: u8) {
         self.push(1, &[1 + settings % 2, settings / 2 % 2, settings / 4 % 3]);
         self.push(8, &[settings / 12]);
+        let factor: u16 = match (settings % 2, self.below(3)) {
+            (0, at) => [1000, 1700, 2000][usize::from(at)],
+            (_, at) => [750, 890, 1000][usize::from(at)],
+        };
+        self.push(9, &factor.to_be_bytes());
         let (first, step) = (self.below(32), 2 * self.below(16) + 1);
         for i in 0..places {
             let case = first.wrapping_add(i.wrapping_mul(step)) % 32;
-            let kind = 1 + self.below(13);
+            let kind = 1 + self.below(14);
             self.push(2, &[case, kind]);
             for station in 0..16 {
                 self.effects(case, station, 0);
@@ -192,9 +197,9 @@ impl List {
     fn fields(&mut self, count: usize) {
         for _ in 0..count {
             let (case, station) = (self.below(33), self.below(17));
-            match self.below(17) {
+            match self.below(18) {
                 0..2 => {
-                    let kind = self.below(15);
+                    let kind = self.below(16);
                     self.push(2, &[case, kind]);
                 }
                 2..7 => self.effects(case, station, 20),
@@ -207,6 +212,10 @@ impl List {
                 13 => self.push(7, &[station]),
                 14 => self.any(),
                 15 => {
+                    let factor = 700 + self.random.below(1400) as u16;
+                    self.push(9, &factor.to_be_bytes());
+                }
+                16 => {
                     let ice = self.below(3);
                     self.push(8, &[ice]);
                 }
@@ -220,7 +229,7 @@ impl List {
 
     /// Any tag with any body.
     fn any(&mut self) {
-        let (tag, len) = (self.below(11), self.below(12));
+        let (tag, len) = (self.below(12), self.below(12));
         let body: Vec<_> = (0..len).map(|_| self.below(256)).collect();
         self.push(tag, &body);
     }

@@ -13,18 +13,18 @@ pub struct Counted {
 
 /// The bounds are the counts of the library as it is; they are set here alone.
 pub const LISTS: [Counted; 12] = [
-    counted("03", 1, 8, 299),
-    counted("03", 1, 32, 299),
-    counted("02/04", 1, 8, 304),
-    counted("02/04", 1, 32, 304),
-    counted("06", 1, 8, 1695),
-    counted("06", 1, 32, 2450),
-    counted("06", 2, 8, 1707),
-    counted("06", 2, 32, 2489),
-    counted("07", 1, 8, 3052),
-    counted("07", 1, 32, 4318),
-    counted("07", 2, 8, 3146),
-    counted("07", 2, 32, 4458),
+    counted("03", 1, 8, 298),
+    counted("03", 1, 32, 298),
+    counted("02/04", 1, 8, 305),
+    counted("02/04", 1, 32, 305),
+    counted("06", 1, 8, 1752),
+    counted("06", 1, 32, 2510),
+    counted("06", 2, 8, 1774),
+    counted("06", 2, 32, 2559),
+    counted("07", 1, 8, 3181),
+    counted("07", 1, 32, 4453),
+    counted("07", 2, 8, 3314),
+    counted("07", 2, 32, 4635),
 ];
 
 const fn counted(field: &'static str, method: u8, places: u8, bound: u32) -> Counted {

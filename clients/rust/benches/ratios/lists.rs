@@ -195,10 +195,10 @@ pub fn mixed(count: usize, places: u8, seed: u64) -> Vec<Field> {
 /// Fields of every tag with values in and out of range, wrong lengths and unknown tags, so that every refusal occurs.
 pub fn with_refusals(count: usize, seed: u64) -> Vec<u8> {
     let mut random = Random::new(seed);
-    let lengths = [1, 3, 2, 8, 1, 7, 2, 1, 0];
+    let lengths = [1, 3, 2, 8, 1, 7, 2, 1, 1, 2, 0];
     let mut bytes = Vec::new();
     for _ in 0..count {
-        let tag = random.below(9) as u8;
+        let tag = random.below(11) as u8;
         let off = usize::from(random.below(20) == 0);
         let len = lengths[usize::from(tag)] + off;
         bytes.extend_from_slice(&[tag, 0, len as u8]);
@@ -207,8 +207,10 @@ pub fn with_refusals(count: usize, seed: u64) -> Vec<u8> {
                 (1, _) => random.below(4),
                 (3, 0) | (2 | 4, 0) => random.below(34),
                 (3, 1) | (5..=7, 0) => random.below(17),
-                (2, 1) => random.below(13),
+                (2, 1) => random.below(16),
                 (6, 1) => random.below(4),
+                (8, _) => random.below(3),
+                (9, 0) => [0, 3, 5, 7][random.below(4) as usize],
                 (3, _) if at % 2 == 0 => [0, 5, 0xFA, 0x27, 0x40][random.below(5) as usize],
                 (5, _) if at % 2 == 1 => [0, 5, 0x27][random.below(3) as usize],
                 _ => random.below(256),

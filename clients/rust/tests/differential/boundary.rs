@@ -277,8 +277,8 @@ fn doubtful_state(list: &[u8], random: &mut Random) -> Vec<u8> {
         0 => state.extend(field(6, &[random.below(18) as u8, random.below(4) as u8])),
         1 => state.extend(field(7, &[random.below(18) as u8])),
         2 => state.truncate(random.below(state.len() as u64) as usize),
-        3 => state.extend(field(random.between(0, 9) as u8, &[40, 40][..])),
-        4 => state.extend([random.below(9) as u8, 0xFF, 0xFF, 1]),
+        3 => state.extend(field(random.between(0, 10) as u8, &[40, 40][..])),
+        4 => state.extend([random.below(10) as u8, 0xFF, 0xFF, 1]),
         _ if !fields.is_empty() => state.extend(random.pick(&fields)),
         _ => state.push(1),
     }

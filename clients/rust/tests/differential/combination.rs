@@ -18,6 +18,7 @@ pub const E: u8 = 10;
 pub const FA: u8 = 11;
 pub const DI: u8 = 12;
 pub const WI: u8 = 13;
+pub const T: u8 = 14;
 
 /// Kinds of which at most one case acts, group by group.
 pub const ONE_OF: [&[u8]; 6] = [&[LR, S, R], &[W], &[E], &[FA], &[DI], &[WI]];
@@ -39,6 +40,8 @@ pub struct Row {
     opened: Opened,
     /// The columns of the table, with live option 0 until a sheet's is put in.
     columns: [i64; 12],
+    /// The factor on T, 0 until a sheet's is put in.
+    straining: i64,
 }
 
 const fn row(number: u8, opened: Opened, columns: [i64; 12]) -> Row {
@@ -46,6 +49,7 @@ const fn row(number: u8, opened: Opened, columns: [i64; 12]) -> Row {
         number,
         opened,
         columns,
+        straining: 0,
     }
 }
 
@@ -96,7 +100,10 @@ const ROWS: [Row; 38] = [
 /// The rows whose factor on L is 500 with live option 1.
 const LIVE_OPTION_ROWS: [u8; 6] = [3, 5, 6, 9, 11, 14];
 
-/// The column of a kind: Hp and Hv share one.
+/// The rows without T.
+const ROWS_WITHOUT_T: [u8; 2] = [1, 21];
+
+/// The column of a kind but T: Hp and Hv share one.
 fn column(kind: u8) -> usize {
     usize::from(if kind <= HP { kind - D } else { kind - HV + 2 })
 }
@@ -104,7 +111,10 @@ fn column(kind: u8) -> usize {
 impl Row {
     /// The full factor on a kind.
     pub fn factor(&self, kind: u8) -> i64 {
-        self.columns[column(kind)]
+        match kind {
+            T => self.straining,
+            _ => self.columns[column(kind)],
+        }
     }
 
     fn is_open(&self, sheet: &Sheet) -> bool {
@@ -117,8 +127,11 @@ impl Row {
         sheet.method == method && opened
     }
 
-    /// The row with the factor on L that the sheet's live option gives it.
+    /// The row with the factor on L that the sheet's live option gives it, and the sheet's factor on T.
     fn on(mut self, sheet: &Sheet) -> Row {
+        if !ROWS_WITHOUT_T.contains(&self.number) {
+            self.straining = sheet.straining.into();
+        }
         if sheet.live_option == 1 && LIVE_OPTION_ROWS.contains(&self.number) {
             self.columns[column(L)] = 500;
         }

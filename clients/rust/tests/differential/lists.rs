@@ -1,6 +1,6 @@
 //! Random lists of fields, of several sorts.
 
-use crate::combination::{D, DI, F, WI};
+use crate::combination::{D, DI, F, T, WI};
 use crate::random::Random;
 use crate::reference::{LONGEST_BODY, PLACES, STATIONS};
 
@@ -52,6 +52,8 @@ struct Style {
     places: u64,
     /// Percentage of sheets that start with ice.
     ice: u64,
+    /// Percentage of sheets that start with a straining factor set.
+    straining: u64,
     effects: Effects,
     greatest_capacity: i64,
     /// Percentage of fields whose values may lie at or outside their limits.
@@ -108,17 +110,20 @@ fn style(random: &mut Random, sort: Sort) -> Style {
         (0..count).map(|_| random.below(16) as u8).collect()
     };
     let mut style = Style {
-        kinds: (D..=WI).collect(),
+        kinds: (D..=T).collect(),
         stations: some_stations(random),
         places: random.pick(&[2, 4, 5, 6, 7, 8, 9, 10, 12, 16, 20, 26]),
         ice: random.pick(&[0, 50, 100]),
+        straining: random.pick(&[0, 50, 100]),
         effects: Effects::UpTo(limit),
         greatest_capacity: random.pick(&[3, 20, 500, 10_000]),
         edge: 2,
     };
-    // Several F cases, which act together.
-    if random.chance(25) {
-        style.kinds.extend([F; 6]);
+    // Several F cases, which act together, or several T cases, which act each by itself.
+    match random.below(8) {
+        0 | 1 => style.kinds.extend([F; 6]),
+        2 => style.kinds.extend([T; 6]),
+        _ => {}
     }
     match sort {
         Sort::Edge => style.edge = 50,
@@ -135,7 +140,7 @@ fn style(random: &mut Random, sort: Sort) -> Style {
         Sort::OneKind => {
             style.kinds = few_kinds(random);
             // Di and Wi act in ice rows alone.
-            if style.kinds.iter().any(|kind| *kind >= DI) {
+            if style.kinds.iter().any(|kind| [DI, WI].contains(kind)) {
                 style.ice = 90;
             }
         }
@@ -147,7 +152,7 @@ fn style(random: &mut Random, sort: Sort) -> Style {
 
 fn few_kinds(random: &mut Random) -> Vec<u8> {
     let count = random.pick(&[1, 1, 2, 3]);
-    let kind = |_| random.between(D.into(), WI.into()) as u8;
+    let kind = |_| random.between(D.into(), T.into()) as u8;
     (0..count).map(kind).collect()
 }
 
@@ -158,6 +163,13 @@ impl Builder<'_> {
         self.fresh(method, live_option, zone);
         if self.random.chance(self.style.ice) {
             self.push(8, &[1]);
+        }
+        if self.random.chance(self.style.straining) {
+            let factor = match method {
+                1 => self.random.between(1000, 2000),
+                _ => self.random.between(750, 1000),
+            };
+            self.push(9, &two_bytes(factor));
         }
         for _ in 0..self.style.places {
             let Some(case) = self.place(false) else { break };
@@ -205,7 +217,11 @@ impl Builder<'_> {
                 let component = self.random.below(3) as u8;
                 self.push(6, &[station, component]);
             }
-            292..=390 => self.push(7, &[station]),
+            292..=382 => self.push(7, &[station]),
+            383..=390 => {
+                let factor = self.straining();
+                self.push(9, &two_bytes(factor));
+            }
             391..=398 => {
                 let on = self.random.below(2) as u8;
                 self.push(8, &[on]);
@@ -222,8 +238,8 @@ impl Builder<'_> {
         } else {
             self.near(15, &[0, 14, 15, 16, 255])
         };
-        let kind = self.near(13, &[0, 1, 11, 12, 13, 14, 255]);
-        match self.random.below(17) {
+        let kind = self.near(14, &[0, 1, 12, 13, 14, 15, 255]);
+        match self.random.below(18) {
             0 => {
                 let method = self.near(2, &[0, 1, 2, 3, 255]);
                 let live_option = self.near(1, &[0, 1, 2, 255]);
@@ -245,6 +261,10 @@ impl Builder<'_> {
                 self.push(6, &[station, component]);
             }
             14 | 15 => self.push(7, &[station]),
+            16 => {
+                let factor = self.edge_straining();
+                self.push(9, &two_bytes(factor));
+            }
             _ => {
                 let on = self.near(1, &[0, 1, 2, 255]);
                 self.push(8, &[on]);
@@ -278,6 +298,23 @@ impl Builder<'_> {
             0..=4 => self.random.pick(&EDGE[..3]),
             5 => self.random.pick(&EDGE),
             _ => self.capacity(),
+        }
+    }
+
+    fn edge_straining(&mut self) -> i64 {
+        const EDGE: [i64; 12] = [
+            749, 750, 751, 999, 1000, 1001, 1999, 2000, 2001, 0, 32_768, 65_535,
+        ];
+        self.random.pick(&EDGE)
+    }
+
+    /// A straining factor of either method: one of the other method is refused.
+    fn straining(&mut self) -> i64 {
+        match self.random.below(6) {
+            0 => 1000,
+            1 => self.edge_straining(),
+            2 | 3 => self.random.between(750, 1000),
+            _ => self.random.between(1000, 2000),
         }
     }
 
@@ -323,7 +360,7 @@ impl Builder<'_> {
     }
 
     fn fill(&mut self, case: u8, kind: u8) {
-        if usize::from(case) < PLACES && (D..=WI).contains(&kind) {
+        if usize::from(case) < PLACES && (D..=T).contains(&kind) {
             self.filled[usize::from(case)] = true;
         }
         self.push(2, &[case, kind]);
@@ -368,8 +405,8 @@ pub fn field(tag: u8, body: &[u8]) -> Vec<u8> {
 
 /// A field that the list of tags does not allow, or the header of one that is too long.
 fn damaged_field(random: &mut Random) -> Vec<u8> {
-    let unknown = random.pick(&[0x00, 0x09, 0x0A, 0x7F, 0x80, 0x81, 0x86, 0x87, 0xFF]);
-    let known = random.between(1, 8) as u8;
+    let unknown = random.pick(&[0x00, 0x0A, 0x0B, 0x7F, 0x80, 0x81, 0x86, 0x87, 0xFF]);
+    let known = random.between(1, 9) as u8;
     let length = random.below(13) as usize;
     let body: Vec<u8> = (0..length).map(|_| random.below(40) as u8).collect();
     match random.below(100) {

@@ -94,6 +94,7 @@ impl Run {
             worked::frames(),
             worked::ice(),
             worked::fluid(),
+            worked::straining(),
             worked::turned(),
             worked::refusals(),
             worked::lengths(),

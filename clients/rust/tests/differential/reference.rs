@@ -1,6 +1,8 @@
 //! A plain implementation of docs/SCOPE.md, by the direct method: what every answer must be.
 
-use crate::combination::{self, low_factor, open_rows, Combination, Row, D, F, HP, HV, L, ONE_OF};
+use crate::combination::{
+    self, low_factor, open_rows, Combination, Row, D, F, HP, HV, L, ONE_OF, T,
+};
 
 pub const PLACES: usize = 32;
 pub const STATIONS: usize = 16;
@@ -23,6 +25,8 @@ pub struct Sheet {
     pub live_option: u8,
     pub zone: u8,
     pub ice: bool,
+    /// The factor on T, in thousandths.
+    pub straining: u16,
     pub places: [Option<Case>; PLACES],
     pub capacities: [Option<[u16; 3]>; STATIONS],
 }
@@ -34,6 +38,7 @@ impl Sheet {
             live_option: 0,
             zone: 0,
             ice: false,
+            straining: 1000,
             places: [None; PLACES],
             capacities: [None; STATIONS],
         }
@@ -150,16 +155,17 @@ fn refusal(sheet: &Sheet, tag: u8, body: &[u8]) -> Option<u8> {
         0x06 => 2,
         0x07 => 1,
         0x08 => 1,
+        0x09 => 2,
         _ => return Some(1),
     };
     if body.len() != length {
         return Some(2);
     }
-    value_refusal(tag, body).or_else(|| sheet_refusal(sheet, tag, body))
+    value_refusal(sheet, tag, body).or_else(|| sheet_refusal(sheet, tag, body))
 }
 
-/// Refusals 4 to 10: body values from first to last.
-fn value_refusal(tag: u8, body: &[u8]) -> Option<u8> {
+/// Refusals 4 to 10 and 15: body values from first to last. The limits of a straining factor go by the sheet's method.
+fn value_refusal(sheet: &Sheet, tag: u8, body: &[u8]) -> Option<u8> {
     let due = |outside: bool, number: u8| outside.then_some(number);
     let case = || due(body[0] > 31, 5);
     let station = |at: usize| due(body[at] > 15, 6);
@@ -167,7 +173,7 @@ fn value_refusal(tag: u8, body: &[u8]) -> Option<u8> {
     let capacity = |at: usize| due(!(1..=10_000).contains(&unsigned(body, at)), 10);
     match tag {
         0x01 => due(!(1..=2).contains(&body[0]) || body[1] > 1 || body[2] > 2, 4),
-        0x02 => case().or(due(!(1..=13).contains(&body[1]), 7)),
+        0x02 => case().or(due(!(1..=14).contains(&body[1]), 7)),
         0x03 => case()
             .or(station(1))
             .or(effect(2))
@@ -177,7 +183,14 @@ fn value_refusal(tag: u8, body: &[u8]) -> Option<u8> {
         0x05 => station(0).or(capacity(1)).or(capacity(3)).or(capacity(5)),
         0x06 => station(0).or(due(body[1] > 2, 8)),
         0x07 => station(0),
-        _ => due(body[0] > 1, 4),
+        0x08 => due(body[0] > 1, 4),
+        _ => {
+            let limits = match sheet.method {
+                1 => 1000..=2000,
+                _ => 750..=1000,
+            };
+            due(!limits.contains(&unsigned(body, 0)), 15)
+        }
     }
 }
 
@@ -215,7 +228,8 @@ fn perform(sheet: &mut Sheet, tag: u8, body: &[u8]) -> Answer {
         0x05 => sheet.capacities[first] = Some([1, 3, 5].map(|at| unsigned(body, at))),
         0x06 => return extremes(sheet, first, usize::from(body[1])),
         0x07 => return utilisation(sheet, first),
-        _ => sheet.ice = body[0] == 1,
+        0x08 => sheet.ice = body[0] == 1,
+        _ => sheet.straining = unsigned(body, 0),
     }
     Answer::Accepted
 }
@@ -292,8 +306,8 @@ fn greatest_in_row(row: &Row, low: i64, values: &[Option<(u8, i128)>; PLACES]) -
                 extreme.combination.low |= 1 << place;
             }
             HP => extreme.act(place, full),
-            L | HV if full > 0 => extreme.act(place, full),
-            L | HV => {}
+            L | HV | T if full > 0 => extreme.act(place, full),
+            L | HV | T => {}
             _ => consider(&mut best_of_group, kind, place, full),
         }
     }
@@ -334,6 +348,10 @@ pub fn save(sheet: &Sheet) -> Vec<u8> {
     let mut saved = vec![1, 0, 3, sheet.method, sheet.live_option, sheet.zone];
     if sheet.ice {
         saved.extend([8, 0, 1, 1]);
+    }
+    if sheet.straining != 1000 {
+        let [high, low] = sheet.straining.to_be_bytes();
+        saved.extend([9, 0, 2, high, low]);
     }
     for (place, case) in filled(&sheet.places) {
         saved.extend([2, 0, 2, place as u8, case.kind]);

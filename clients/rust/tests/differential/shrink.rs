@@ -122,6 +122,7 @@ fn numbers(field: &[u8]) -> Vec<(usize, usize)> {
     let two_byte_numbers_from = match (field.first(), field.len()) {
         (Some(3), 11) => 5,
         (Some(5), 10) => 4,
+        (Some(9), 5) => 3,
         _ => field.len().min(20),
     };
     let single = (3..two_byte_numbers_from).map(|offset| (offset, 1));

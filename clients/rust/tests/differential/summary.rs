@@ -2,7 +2,7 @@
 
 use std::time::Duration;
 
-use crate::combination::F;
+use crate::combination::{F, T};
 use crate::lists::Sort;
 use crate::reference::{Answer, Sheet};
 
@@ -18,8 +18,9 @@ pub struct Summary {
     pub utilisations: u64,
     pub with_ice: u64,
     pub with_fluids: u64,
+    pub with_straining: u64,
     pub enumerated: u64,
-    pub refusals: [u64; 15],
+    pub refusals: [u64; 16],
     pub chains: u64,
     pub refused_states: u64,
     pub pairs_of_lists: u64,
@@ -33,9 +34,12 @@ impl Summary {
     pub fn count(&mut self, sheet: &Sheet, answer: &Answer) {
         if matches!(answer, Answer::Extremes { .. } | Answer::Utilisation { .. }) {
             self.with_ice += u64::from(sheet.ice);
-            let kinds = sheet.places.iter().flatten().map(|case| case.kind);
-            let fluids = kinds.filter(|kind| *kind == F).count();
-            self.with_fluids += u64::from(fluids > 1);
+            let count = |kind: u8| {
+                let cases = sheet.places.iter().flatten();
+                cases.filter(|case| case.kind == kind).count()
+            };
+            self.with_fluids += u64::from(count(F) > 1);
+            self.with_straining += u64::from(count(T) > 0 && sheet.straining != 1000);
         }
         match answer {
             Answer::Accepted => self.accepted += 1,
@@ -47,7 +51,7 @@ impl Summary {
 
     /// The refusal numbers that never occurred: a run that lacks one has tested too little.
     pub fn missing_refusals(&self) -> Vec<usize> {
-        (1..=14)
+        (1..=15)
             .filter(|number| self.refusals[*number] == 0)
             .collect()
     }
@@ -68,8 +72,9 @@ impl Summary {
         line("utilisations answered (07)", self.utilisations);
         line("  of both, with ice", self.with_ice);
         line("  of both, with several F cases", self.with_fluids);
+        line("  of both, T not at 1000", self.with_straining);
         line("  of both, also enumerated", self.enumerated);
-        for number in 1..=14 {
+        for number in 1..=15 {
             line(&format!("refusal {number}"), self.refusals[number]);
         }
         line("chains of saved states", self.chains);

@@ -1,7 +1,9 @@
-//! Fixed lists: the frames worked by hand, sheets with ice, with F and with every effect turned, the small inputs of the
-//! table of refusals, and fields at the limits of a length.
+//! Fixed lists: the frames worked by hand, sheets with ice, with F, with T and with every effect turned, the small inputs of
+//! the table of refusals, and fields at the limits of a length.
 
-use crate::combination::{D, DI, E, F, FA, HP, HV, L, LR, R, S, W, WI};
+use std::ops::RangeInclusive;
+
+use crate::combination::{D, DI, E, F, FA, HP, HV, L, LR, R, S, T, W, WI};
 use crate::lists::field;
 use crate::reference::{read_list, Answer, Sheet, LONGEST_BODY};
 
@@ -15,13 +17,14 @@ pub struct Example {
 enum Expected {
     Maximum(i128),
     MaximumInRow(i128, u8),
+    MaximumInRows(i128, RangeInclusive<u8>),
     MinimumInRow(i128, u8),
     Extremes(i128, i128),
     Utilisation(i128, i128, bool),
     Bytes(Vec<u8>),
 }
 
-use Expected::{Bytes, Extremes, Maximum, MaximumInRow, MinimumInRow, Utilisation};
+use Expected::{Bytes, Extremes, Maximum, MaximumInRow, MaximumInRows, MinimumInRow, Utilisation};
 
 impl Example {
     /// Compares the reference with the number or the bytes of the document.
@@ -34,6 +37,9 @@ impl Example {
             (Maximum(value), Answer::Extremes { maximum, .. }) => maximum.value == *value,
             (MaximumInRow(value, row), Answer::Extremes { maximum, .. }) => {
                 maximum.value == *value && maximum.combination.row == *row
+            }
+            (MaximumInRows(value, rows), Answer::Extremes { maximum, .. }) => {
+                maximum.value == *value && rows.contains(&maximum.combination.row)
             }
             (MinimumInRow(value, row), Answer::Extremes { minimum, .. }) => {
                 minimum.value == *value && minimum.combination.row == *row
@@ -194,6 +200,65 @@ pub fn fluid() -> Vec<Example> {
     ]
 }
 
+/// A list with the straining factor set after its cases.
+fn strained(list: Vec<u8>, factor: u16) -> Vec<u8> {
+    [list, field(9, &factor.to_be_bytes())].concat()
+}
+
+// SCOPE 3.9
+#[rustfmt::skip]
+pub fn straining() -> Vec<Example> {
+    const ALLOWABLE: [u8; 3] = [2, 0, 0];
+    let alone = [(T, 100)];
+    let dead = [(D, 100), (T, 10)];
+    let opposing = [(D, 100), (L, 50), (T, -30)];
+    let several = [(T, 50), (T, -20), (T, 30)];
+    let uplift = [(D, -100), (FA, 100), (W, 100), (T, 10)];
+    let glaze = [(D, 100), (L, 300), (S, 100), (DI, 100), (T, 10)];
+    let set = |settings, cases_of: &[(u8, i16)], factor| strained(cases(settings, cases_of), factor);
+    let again = [set(PLAIN, &alone, 2000), cases(PLAIN, &alone)].concat();
+    let twice = strained(set(PLAIN, &alone, 2000), 1200);
+    let with_ice = [set(PLAIN, &glaze, 2000), field(8, &[1])].concat();
+    let refused = |settings, held, factor| strained(set(settings, &alone, held), factor);
+    let verdict = |factor, top, pass| {
+        let list = set(PLAIN, &alone, factor);
+        utilisation("a verdict by the factor on T", list, [150, 10, 10], Utilisation(top, 15_000_000, pass))
+    };
+    vec![
+        extremes("T alone", cases(PLAIN, &alone), MaximumInRows(100_000, 2..=8)),
+        extremes("T alone at 2000", set(PLAIN, &alone, 2000), MaximumInRows(200_000, 2..=8)),
+        extremes("T alone, method 2", cases(ALLOWABLE, &alone), MaximumInRows(100_000, 22..=30)),
+        extremes("T alone at 750", set(ALLOWABLE, &alone, 750), MaximumInRows(75_000, 22..=30)),
+        extremes("no T in row 1", cases(PLAIN, &dead), MaximumInRow(140_000, 1)),
+        extremes("rows 2 to 6 with T", set(PLAIN, &[(D, 100), (T, 30)], 1500), MaximumInRows(165_000, 2..=6)),
+        extremes("rows 22 to 28 with T", cases(ALLOWABLE, &dead), MaximumInRows(110_000, 22..=28)),
+        extremes("T opposes", cases(PLAIN, &opposing), Extremes(200_000, 60_000)),
+        extremes("T opposes at 2000", set(PLAIN, &opposing, 2000), Extremes(200_000, 30_000)),
+        extremes("a subset of T", set(PLAIN, &several, 1500), Extremes(120_000, -30_000)),
+        extremes("a subset of T, method 2", set(ALLOWABLE, &several, 900), Extremes(72_000, -18_000)),
+        extremes("T in row 10", set([1, 0, 1], &uplift, 2000), MaximumInRow(230_000, 10)),
+        extremes("T in row 12", cases([1, 0, 2], &uplift), MaximumInRow(70_000, 12)),
+        extremes("T in row 35", cases([2, 0, 1], &uplift), MaximumInRow(160_000, 35)),
+        extremes("T in row 40", set([2, 0, 2], &uplift, 800), MaximumInRow(83_000, 40)),
+        extremes("T in row 13, 09 before 08", with_ice, MaximumInRow(690_000, 13)),
+        extremes("T in row 13, 08 before 09", strained(iced(PLAIN, &glaze), 2000), MaximumInRow(690_000, 13)),
+        extremes("T in row 15", strained(iced(PLAIN, &[(D, -100), (WI, 300), (T, 20)]), 1100), MaximumInRow(232_000, 15)),
+        extremes("T in row 41", strained(iced(ALLOWABLE, &[(L, 100), (DI, 100), (T, 10)]), 750), MaximumInRow(177_500, 41)),
+        extremes("T in row 42", iced(ALLOWABLE, &[(DI, 100), (WI, 50), (S, 10), (T, 10)]), MaximumInRow(125_000, 42)),
+        extremes("09 and 01", again, Extremes(100_000, 0)),
+        extremes("09 twice", twice, Extremes(120_000, 0)),
+        extremes("999 in method 1", refused(PLAIN, 1300, 999), Extremes(130_000, 0)),
+        extremes("2001 in method 1", refused(PLAIN, 1300, 2001), Extremes(130_000, 0)),
+        extremes("749 in method 2", refused(ALLOWABLE, 800, 749), Extremes(80_000, 0)),
+        extremes("1001 in method 2", refused(ALLOWABLE, 800, 1001), Extremes(80_000, 0)),
+        extremes("1000 in method 2", refused(ALLOWABLE, 800, 1000), Extremes(100_000, 0)),
+        verdict(1500, 15_000_000, true),
+        verdict(1501, 15_010_000, false),
+        extremes("T turned", set(PLAIN, &[(D, -100), (T, 30), (T, -50)], 2000), Extremes(-30_000, -220_000)),
+        extremes("T not turned", set(PLAIN, &[(D, 100), (T, -30), (T, 50)], 2000), Extremes(220_000, 30_000)),
+    ]
+}
+
 // SCOPE 11.3
 #[rustfmt::skip]
 pub fn turned() -> Vec<Example> {
@@ -253,7 +318,7 @@ fn p2_answer() -> Vec<u8> {
 
 // SCOPE 7.1
 pub fn refusals() -> Vec<Example> {
-    let examples: [(u8, &[u8]); 14] = [
+    let examples: [(u8, &[u8]); 18] = [
         (3, &[1, 0, 3, 1]),
         (1, &[0x7F, 0, 0]),
         (2, &[4, 0, 2, 0, 0]),
@@ -261,13 +326,17 @@ pub fn refusals() -> Vec<Example> {
         (4, &[8, 0, 1, 2]),
         (5, &[4, 0, 1, 0x20]),
         (6, &[7, 0, 1, 0x10]),
-        (7, &[2, 0, 2, 0, 0x0E]),
+        (7, &[2, 0, 2, 0, 0x0F]),
         (8, &[6, 0, 2, 0, 3]),
         (9, &[3, 0, 8, 0, 0, 0x27, 0x11, 0, 0, 0, 0]),
         (10, &[5, 0, 7, 0, 0, 0, 0, 1, 0, 1]),
         (11, &[2, 0, 2, 0, 1, 2, 0, 2, 0, 1]),
         (12, &[4, 0, 1, 0]),
         (13, &[7, 0, 1, 0]),
+        (15, &[9, 0, 2, 0, 0]),
+        (2, &[9, 0, 1, 0]),
+        (2, &[9, 0, 3, 0, 0, 0]),
+        (1, &[0x0A, 0, 2, 0, 0]),
     ];
     let example = |(number, list): (u8, &[u8])| Example {
         name: "the small input of a refusal",

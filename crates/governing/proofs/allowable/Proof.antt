@@ -14,7 +14,7 @@ use Rattle.governing.proofs.allowable.Statement.{statement}
 use Rattle.governing.proofs.allowable.Tie as tie
 
 with-row-requires-9 : tie.Need-with-row-requires-9
-with-row-requires-9 c κs = let s = c .before .before .before .before .before .before .before .before .before in (omega arith, s .pre .0, s .pre .1)
+with-row-requires-9 c κs = let s = c .before .before .before .before .before .before .before .before .before in (omega arith, s .pre .0, s .pre .1, s .pre .2)
 
 returns : tie.Need-returns
 returns c =

@@ -10,16 +10,16 @@ use Rattle.governing.proofs.highest.Statement.{statement}
 use Rattle.governing.proofs.highest.Tie as tie
 
 toward-requires-5 : tie.Need-toward-requires-5
-toward-requires-5 c κs = let s = c .before .before .before .before .before .before .before .before .before .before .before in (s .pre .3, omega arith, omega arith)
+toward-requires-5 c κs = let s = c .before .before .before .before .before .before .before .before .before .before .before in (s .pre .3, omega arith, omega arith, s .pre .4)
 
 toward-requires-6 : tie.Need-toward-requires-6
-toward-requires-6 c κs = let s = c .before .before .before .before .before .before .before .before .before .before .before .before .before in (s .pre .2, omega arith, omega arith)
+toward-requires-6 c κs = let s = c .before .before .before .before .before .before .before .before .before .before .before .before .before in (s .pre .2, omega arith, omega arith, s .pre .4)
 
 toward-requires-7 : tie.Need-toward-requires-7
-toward-requires-7 c κs = let s = c .before .before .before .before .before .before .before .before .before .before .before .before .before .before .before in (s .pre .1, omega arith, omega arith)
+toward-requires-7 c κs = let s = c .before .before .before .before .before .before .before .before .before .before .before .before .before .before .before in (s .pre .1, omega arith, omega arith, s .pre .4)
 
 toward-requires-8 : tie.Need-toward-requires-8
-toward-requires-8 c κs = let s = c .before .before .before .before .before .before .before .before .before .before .before .before .before .before .before .before .before in (s .pre .0, omega arith, omega arith)
+toward-requires-8 c κs = let s = c .before .before .before .before .before .before .before .before .before .before .before .before .before .before .before .before .before in (s .pre .0, omega arith, omega arith, s .pre .4)
 
 returns : tie.Need-returns
 returns c =

@@ -46,19 +46,23 @@ returns-8 c = rw (c .match .keys8)
 
 returns-9 : tie.Need-returns-9
 unfolding lengthOf
-returns-9 c =
+returns-9 c = rw (c .match .keys9)
+
+returns-10 : tie.Need-returns-10
+unfolding lengthOf
+returns-10 c =
     let tag = c .before .args .tag in
     let r = c .match .rest in
     ⊎-elim
     (λ (e : tag ≡ 0). rw e)
     (λ (ne : tag ≡ 0 → ⊥).
     let z : 0 ≤ tag = omega arith in
-    let low = past 3 (past 2 (past 1 (past 0 z ne) (r .0 .0 .0 .0 .0 .0 .0 .1)) (r .0 .0 .0 .0 .0 .0 .1)) (r .0 .0 .0 .0 .0 .1) in
-    let g = past 8 (past 7 (past 6 (past 5 (past 4 low (r .0 .0 .0 .0 .1)) (r .0 .0 .0 .1)) (r .0 .0 .1)) (r .0 .1)) (r .1) in
-    sym (List·getD-eq-default (0 ∷ 3 ∷ 2 ∷ 8 ∷ 1 ∷ 7 ∷ 2 ∷ 1 ∷ 1 ∷ []) 0 g))
+    let low = past 3 (past 2 (past 1 (past 0 z ne) (r .0 .0 .0 .0 .0 .0 .0 .0 .1)) (r .0 .0 .0 .0 .0 .0 .0 .1)) (r .0 .0 .0 .0 .0 .0 .1) in
+    let g = past 9 (past 8 (past 7 (past 6 (past 5 (past 4 low (r .0 .0 .0 .0 .0 .1)) (r .0 .0 .0 .0 .1)) (r .0 .0 .0 .1)) (r .0 .0 .1)) (r .0 .1)) (r .1) in
+    sym (List·getD-eq-default (0 ∷ 3 ∷ 2 ∷ 8 ∷ 1 ∷ 7 ∷ 2 ∷ 1 ∷ 1 ∷ 2 ∷ []) 0 g))
     (eq-or-ne tag 0)
 
 pub right-length-spec : {M : Type 1} → statement M
 right-length-spec =
     tie.close
-    (tie.spec returns returns-2 returns-3 returns-4 returns-5 returns-6 returns-7 returns-8 returns-9)
+    (tie.spec returns returns-2 returns-3 returns-4 returns-5 returns-6 returns-7 returns-8 returns-9 returns-10)

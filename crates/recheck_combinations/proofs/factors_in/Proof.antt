@@ -1,6 +1,6 @@
--- No factor is above 2,000, at the places passed and at those still 0; the measure is what is left.
+-- No factor is above the bound, at the places passed and at those still 0; the measure is what is left.
 -- Assumes nothing.
-use Prim.Native.Nat.{ℕ, zero, suc, _≤_, _-_}
+use Prim.Native.Nat.{ℕ, zero, suc, _≤_, _-_, max}
 use mathlib.Core.List.{List, [], _∷_}
 use lib.ListN.{getD, set}
 use native.Mathlib.Omega.{arith}
@@ -13,31 +13,32 @@ abbrev zeros : ℕ → List ℕ
 zeros zero = []
 zeros (suc n) = 0 ∷ zeros n
 
-none : (n : ℕ) → Factors (zeros n)
-none zero k = omega arith
-none (suc n) zero = omega arith
-none (suc n) (suc k) = none n k
+none : (t n : ℕ) → Factors t (zeros n)
+none t zero k = omega arith
+none t (suc n) zero = omega arith
+none t (suc n) (suc k) = none t n k
 
-stored : (xs : List ℕ) (i v : ℕ) → Factors xs → v ≤ 2000 → Factors (set xs i v)
-stored [] i v f h k = f k
-stored (x ∷ xs) zero v f h zero = h
-stored (x ∷ xs) zero v f h (suc k) = f (suc k)
-stored (x ∷ xs) (suc i) v f h zero = f zero
-stored (x ∷ xs) (suc i) v f h (suc k) = stored xs i v (λ j. f (suc j)) h k
+stored : (t : ℕ) (xs : List ℕ) (i v : ℕ) → Factors t xs → v ≤ max 2000 t → Factors t (set xs i v)
+stored t [] i v f h k = f k
+stored t (x ∷ xs) zero v f h zero = h
+stored t (x ∷ xs) zero v f h (suc k) = f (suc k)
+stored t (x ∷ xs) (suc i) v f h zero = f zero
+stored t (x ∷ xs) (suc i) v f h (suc k) = stored t xs i v (λ j. f (suc j)) h k
 
 abbrev Inv-loop : tie.InvT-loop
-Inv-loop kinds row option factors₀ case₀ factors case = (case ≤ 32) × Factors factors
+Inv-loop kinds row option straining factors₀ case₀ factors case = (case ≤ 32) × Factors straining factors
 
 abbrev μ-loop : tie.MeasureT-loop
-μ-loop kinds row option factors₀ case₀ factors case = 32 - case
+μ-loop kinds row option straining factors₀ case₀ factors case = 32 - case
 
 loop-holds : tie.Need-loop-holds Inv-loop μ-loop
-loop-holds c = (search needs, none 32)
+loop-holds c = (search needs, none (c .args .straining) 32)
 
 loop-again : tie.Need-loop-again Inv-loop μ-loop
 loop-again c =
-    let l = c .before .before .before .loop in
-    (search needs, stored (l .factors) (l .case) (c .factor .result) (l .inv .1) (c .factor .ensures))
+    let turn = c .before .before .before in
+    let l = turn .loop in
+    (search needs, stored (turn .before .args .straining) (l .factors) (l .case) (c .factor .result) (l .inv .1) (c .factor .ensures))
 
 returns : tie.Need-returns Inv-loop μ-loop
 returns c = c .before .loop .inv .1

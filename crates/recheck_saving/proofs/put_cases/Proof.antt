@@ -8,7 +8,7 @@ use Rattle.recheck_saving.proofs.put_cases.Statement.{statement}
 use Rattle.recheck_saving.proofs.put_cases.Tie as tie
 
 abbrev Inv-loop : tie.InvT-loop
-Inv-loop kinds effects out₀ start at₀ case₀ out at case = (case ≤ 32) × (at ≤ 10 + 181 * case) × (length out ≡ length out₀)
+Inv-loop kinds effects out₀ start at₀ case₀ out at case = (case ≤ 32) × (at ≤ 15 + 181 * case) × (length out ≡ length out₀)
 
 abbrev μ-loop : tie.MeasureT-loop
 μ-loop kinds effects out₀ start at₀ case₀ out at case = 32 - case

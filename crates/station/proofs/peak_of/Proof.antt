@@ -24,8 +24,9 @@ pattern-pass-requires c κs = let s = c .before .before .before .before .before 
 
 highest-requires : tie.Need-highest-requires
 highest-requires c κs =
-    let h = served (c .before .before .before .before .before .before .before .before) in
-    (h .first .ready, h .second .ready, h .third .ready, h .fourth .ready)
+    let p = c .before .before .before .before .before .before .before .before in
+    let h = served p in
+    (h .first .ready, h .second .ready, h .third .ready, h .fourth .ready, p .before .before .before .before .before .before .pre .3)
 
 -- the pattern is one of the eight
 pattern-below : (c : tie.After-highest) → c .highest .result .pattern ≤ 7

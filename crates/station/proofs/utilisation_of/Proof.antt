@@ -94,7 +94,7 @@ value-small : (c : tie.After-pattern-weights) → natAbs (c .before .before .bef
 value-small c =
     let s = c .before .before .before .before .before .before .before in
     subst (λ (b : Best). natAbs (b .value) < 2 ^ 63) (sym (best-is c))
-    (value-fits (s .args .s) (kind s) (weighed (c .pattern-weights .result) (effect s))
+    (value-fits (s .args .s) (kind s) (weighed (c .pattern-weights .result) (effect s)) (s .pre .2)
     (weighed-most (s .args .effects .now) (c .pattern-weights .result) (in-range s) (weights c)))
 
 places-of-requires : tie.Need-places-of-requires
@@ -104,7 +104,7 @@ peak-of-requires : tie.Need-peak-of-requires
 peak-of-requires c κs =
     let p = c .before in
     let s = p .before .before in
-    (record { kind = kind s; below = below s; are = p .places-of .ensures }, in-range s, s .pre .1)
+    (record { kind = kind s; below = below s; are = p .places-of .ensures }, in-range s, s .pre .1, s .pre .2)
 
 sets-by-requires : tie.Need-sets-by-requires
 sets-by-requires c κs =
@@ -126,7 +126,7 @@ extreme-requires c κs =
     let q = w .before .before .before in
     let p = q .before .before in
     let s = p .before .before in
-    sets-fit (s .args .s) (kind s) (below s) (p .places-of .result) (p .places-of .ensures) (weighed (w .pattern-weights .result) (effect s)) (q .peak-of .result .peak .best .row) (q .peak-of .result .fluid) (acts-is w) (x .sets-by .result) (x .sets-by .ensures)
+    sets-fit (s .args .s) (s .pre .2) (kind s) (below s) (p .places-of .result) (p .places-of .ensures) (weighed (w .pattern-weights .result) (effect s)) (q .peak-of .result .peak .best .row) (q .peak-of .result .fluid) (acts-is w) (x .sets-by .result) (x .sets-by .ensures)
 
 value-is : (c : tie.After-extreme) → c .extreme .result .value ≡ c .before .before .before .before .before .before .before .peak-of .result .peak .best .value
 value-is c =
@@ -154,7 +154,7 @@ returns c =
     let f : Peak → Extreme = λ z. extremeIn (s .args .s) (kind s) (weighed (patternOf (s .args .p) (z .pattern)) (effect s)) (z .best) in
     let peak = peakOf (patternBest (s .args .s) (kind s) (effect s) (s .args .p)) 7 in
     let is : x .extreme .result ≡ f peak =
-    extreme-is (s .args .s) (kind s) (below s) (p .places-of .result) (p .places-of .ensures) (weighed (w .pattern-weights .result) (effect s)) (q .peak-of .result .peak .best .row) (q .peak-of .result .fluid) (acts-is w) (y .sets-by .result) (y .sets-by .ensures)
+    extreme-is (s .args .s) (s .pre .2) (kind s) (below s) (p .places-of .result) (p .places-of .ensures) (weighed (w .pattern-weights .result) (effect s)) (q .peak-of .result .peak .best .row) (q .peak-of .result .fluid) (acts-is w) (y .sets-by .result) (y .sets-by .ensures)
     (x .extreme .result) (q .peak-of .result .peak .best .value) (x .extreme .ensures .1) (x .extreme .ensures .2) (x .extreme .ensures .3) (value-is x)
     ∙ ap (λ (v : Weights). extremeIn (s .args .s) (kind s) (weighed v (effect s)) (q .peak-of .result .peak .best)) (w .pattern-weights .ensures)
     ∙ ap f (peak-is q) in
@@ -178,7 +178,7 @@ returns c =
       serve = served q;
       numerator = m .magnitude .ensures ∙ ap natAbs (back (x .extreme .result .value) (extreme-small x) ∙ value-is x) ∙ ap (λ (z : Peak). natAbs (z .best .value)) (g .peak);
     } in
-    (used, utilisation-governs (s .args .s) (kind s) (past s) (effect s) (s .args .p) _ used, from)
+    (used, utilisation-governs (s .args .s) (kind s) (past s) (effect s) (s .args .p) _ used (s .pre .2), from)
 
 pub utilisation-of-spec : {M : Type 1} → statement M
 utilisation-of-spec =

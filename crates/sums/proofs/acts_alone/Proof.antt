@@ -1,43 +1,35 @@
--- Each arm is one of the definition.
+-- The kinds of groups are those from 6 to 13; a number that no kind has is of no group.
 -- Assumes nothing.
-use borrow.Author.Needs.{needs}
-use mathlib.Core.Path.{_≡_, sym, ap, _∙_}
-use Rattle.standard.specs.declared.Class.{Class}
-use Rattle.standard.specs.Kinds.{classOf}
+use Prim.Native.Nat.{ℕ, _≤_}
+use native.Mathlib.Omega.{arith}
+use mathlib.Core.Bool.{true, false}
+use mathlib.Core.Path.{_≡_, refl, sym, ap}
+use lib.ListN.{List·getD-eq-default}
+use Rattle.integers.proofs.Sums.{ltb-cases}
+use Rattle.standard.specs.declared.Class.the-variants.{Unknown}
+use Rattle.standard.specs.Kinds.{classes, classOf, kindCount}
+use Rattle.standard.proofs.Table.{same-at}
 use Rattle.sums.specs.Sums.{alone}
 use Rattle.sums.proofs.acts_alone.Statement.{statement}
 use Rattle.sums.proofs.acts_alone.Tie as tie
 
-alone-of : (v : tie.After-class-of) (q : Class) → v .class-of .result ≡ q → alone q ≡ alone (classOf (v .before .args .kind))
-alone-of v q e = sym (ap alone (sym (v .class-of .ensures) ∙ e))
+past-groups : (k : ℕ) → 14 ≤ k → false ≡ alone (classOf k)
+unfolding classOf
+past-groups k h =
+    ltb-cases k kindCount (λ _. false ≡ alone (classOf k))
+    (λ l. same-at (λ j. false) (λ j. alone (classOf j)) 14 1 k refl h (omega arith))
+    (λ l. sym (ap alone (List·getD-eq-default classes Unknown {n = k} (omega arith))))
 
 returns : tie.Need-returns
-returns c = alone-of (c .before .before) _ (c .enum-told .given .1)
+unfolding classOf
+returns c = same-at (λ j. true) (λ j. alone (classOf j)) 6 8 (c .before .before .args .kind) refl (omega arith) (omega arith)
 
 returns-2 : tie.Need-returns-2
-returns-2 c = alone-of (c .before .before) _ (c .enum-told2 .given .1)
+unfolding classOf
+returns-2 c = same-at (λ j. false) (λ j. alone (classOf j)) 0 6 (c .before .args .kind) refl (omega arith) (omega arith)
 
 returns-3 : tie.Need-returns-3
-returns-3 c = alone-of (c .before .before) _ (c .enum-told3 .given .1)
-
-returns-4 : tie.Need-returns-4
-returns-4 c = alone-of (c .before .before) _ (c .enum-told4 .given .1)
-
-returns-5 : tie.Need-returns-5
-returns-5 c = alone-of (c .before .before) _ (c .enum-told5 .given .1)
+returns-3 c = past-groups (c .before .before .args .kind) (omega arith)
 
 pub acts-alone-spec : {M : Type 1} → statement M
-acts-alone-spec =
-    tie.close
-    (tie.spec
-    (λ c κs. search needs)
-    (λ c. search needs)
-    (λ c. search needs)
-    (λ c. search needs)
-    (λ c. search needs)
-    (λ c. search needs)
-    returns
-    returns-2
-    returns-3
-    returns-4
-    returns-5)
+acts-alone-spec = tie.close (tie.spec returns returns-2 returns-3)

@@ -50,8 +50,19 @@ live-told c =
     gained-read (l .with-lowered .result) (d .before .before .args .t .live)
     (omega (arith, dead-told d .small, fluid-told f .small, earth-told e .small, lowered-told l .small)) (omega arith) (c .with-term4 .ensures)
 
+straining-told : (c : tie.After-with-term5) → let v = c .before .before in let a = v .before .before .before .before .before .before .before .before .before .before .args in
+    Gained (c .with-term5 .result) (v .with-term4 .result) (factorOf (a .s) (a .row) 14) (a .t .straining)
+straining-told c =
+    let v = c .before .before in
+    let l = v .before .before in
+    let e = l .before .before in
+    let f = e .before .before in
+    let d = f .before .before in
+    gained-read (v .with-term4 .result) (d .before .before .args .t .straining)
+    (omega (arith, dead-told d .small, fluid-told f .small, earth-told e .small, lowered-told l .small, live-told v .small)) (omega arith) (c .with-term5 .ensures)
+
 with-term-requires : tie.Need-with-term-requires
-with-term-requires c κs = let s = c .before in (s .pre .0, omega arith, omega arith, s .pre .1, room-read (pos 0) (s .args .t .dead) (omega arith) (omega arith) (omega arith))
+with-term-requires c κs = let s = c .before in (s .pre .0, omega arith, omega arith, s .pre .1, room-read (pos 0) (s .args .t .dead) (omega arith) (omega arith) (omega arith), s .pre .3)
 
 with-term-requires-2 : tie.Need-with-term-requires-2
 with-term-requires-2 c κs =
@@ -62,6 +73,7 @@ with-term-requires-2 c κs =
       omega arith,
       s .pre .1,
       room-read (d .with-term .result) (s .args .t .fluid) (omega (arith, dead-told d .small)) (omega arith) (omega (arith, dead-told d .small)),
+      s .pre .3,
     )
 
 with-term-requires-3 : tie.Need-with-term-requires-3
@@ -70,7 +82,7 @@ with-term-requires-3 c κs =
     let d = f .before .before in
     let s = d .before .before in
     let h : natAbs (f .with-term2 .result) + factorMost * natAbs (s .args .t .earth) < 2 ^ 63 = omega (arith, dead-told d .small, fluid-told f .small) in
-    (s .pre .0, omega arith, omega arith, s .pre .1, room-read (f .with-term2 .result) (s .args .t .earth) (omega arith) (omega arith) h)
+    (s .pre .0, omega arith, omega arith, s .pre .1, room-read (f .with-term2 .result) (s .args .t .earth) (omega arith) (omega arith) h, s .pre .3)
 
 with-lowered-requires : tie.Need-with-lowered-requires
 with-lowered-requires c κs =
@@ -79,7 +91,7 @@ with-lowered-requires c κs =
     let d = f .before .before in
     let s = d .before .before in
     let h : natAbs (e .with-term3 .result) + factorMost * natAbs (s .args .t .lowered) < 2 ^ 63 = omega (arith, dead-told d .small, fluid-told f .small, earth-told e .small) in
-    (s .pre .0, s .pre .1, room-read (e .with-term3 .result) (s .args .t .lowered) (omega arith) (omega arith) h)
+    (s .pre .0, s .pre .1, room-read (e .with-term3 .result) (s .args .t .lowered) (omega arith) (omega arith) h, s .pre .3)
 
 with-term-requires-4 : tie.Need-with-term-requires-4
 with-term-requires-4 c κs =
@@ -90,23 +102,37 @@ with-term-requires-4 c κs =
     let s = d .before .before in
     let h : natAbs (l .with-lowered .result) + factorMost * natAbs (s .args .t .live) < 2 ^ 63 =
     omega (arith, dead-told d .small, fluid-told f .small, earth-told e .small, lowered-told l .small) in
-    (s .pre .0, omega arith, omega arith, s .pre .1, room-read (l .with-lowered .result) (s .args .t .live) (omega arith) (omega arith) h)
+    (s .pre .0, omega arith, omega arith, s .pre .1, room-read (l .with-lowered .result) (s .args .t .live) (omega arith) (omega arith) h, s .pre .3)
+
+with-term-requires-5 : tie.Need-with-term-requires-5
+with-term-requires-5 c κs =
+    let v = c .before in
+    let l = v .before .before in
+    let e = l .before .before in
+    let f = e .before .before in
+    let d = f .before .before in
+    let s = d .before .before in
+    let h : natAbs (v .with-term4 .result) + factorMost * natAbs (s .args .t .straining) < 2 ^ 63 =
+    omega (arith, dead-told d .small, fluid-told f .small, earth-told e .small, lowered-told l .small, live-told v .small) in
+    (s .pre .0, omega arith, omega arith, s .pre .1, room-read (v .with-term4 .result) (s .args .t .straining) (omega arith) (omega arith) h, s .pre .3)
 
 returns : tie.Need-returns
 unfolding ownOf
 returns c =
-    let l = c .before .before in
+    let v = c .before .before in
+    let l = v .before .before in
     let e = l .before .before in
     let f = e .before .before in
     let d = f .before .before in
     let a = d .before .before .args in
-    let r : toZ w64 (ofZ w64 (c .with-term4 .result)) ≡ c .with-term4 .result = read (c .with-term4 .result) (c .with-term4 .ok) in
+    let r : toZ w64 (ofZ w64 (c .with-term5 .result)) ≡ c .with-term5 .result = read (c .with-term5 .result) (c .with-term5 .ok) in
     let one : d .with-term .result ≡ pos 0 +ℤ pos (factorOf (a .s) (a .row) 1) *ℤ a .t .dead = dead-told d .is in
     let two = fluid-told f .is ∙ ap (λ (z : ℤ). z +ℤ pos (factorOf (a .s) (a .row) 2) *ℤ a .t .fluid) one in
     let three = earth-told e .is ∙ ap (λ (z : ℤ). z +ℤ pos (factorOf (a .s) (a .row) 3) *ℤ a .t .earth) two in
-    let four = lowered-told l .is ∙ ap (λ (z : ℤ). z +ℤ pos (lowerOf (a .s) (a .row) 3) *ℤ a .t .lowered) three in (
-      r ∙ live-told c .is ∙ ap (λ (z : ℤ). z +ℤ pos (factorOf (a .s) (a .row) 5) *ℤ a .t .live) four,
-      omega (arith, ap natAbs r, dead-told d .small, fluid-told f .small, earth-told e .small, lowered-told l .small, live-told c .small),
+    let four = lowered-told l .is ∙ ap (λ (z : ℤ). z +ℤ pos (lowerOf (a .s) (a .row) 3) *ℤ a .t .lowered) three in
+    let five = live-told v .is ∙ ap (λ (z : ℤ). z +ℤ pos (factorOf (a .s) (a .row) 5) *ℤ a .t .live) four in (
+      r ∙ straining-told c .is ∙ ap (λ (z : ℤ). z +ℤ pos (factorOf (a .s) (a .row) 14) *ℤ a .t .straining) five,
+      omega (arith, ap natAbs r, dead-told d .small, fluid-told f .small, earth-told e .small, lowered-told l .small, live-told v .small, straining-told c .small),
     )
 
 pub own-value-spec : {M : Type 1} → statement M
@@ -118,4 +144,5 @@ own-value-spec =
     with-term-requires-3
     with-lowered-requires
     with-term-requires-4
+    with-term-requires-5
     returns)

@@ -39,7 +39,7 @@ negated-requires c κs =
     rw (back (c .held3 .ok) (c .held3 .ensures)) (omega (arith, held-most s 3 (s .args .under) (omega arith) (omega arith) (s .pre .2)))
 
 greater-requires : tie.Need-greater-requires
-greater-requires c κs = above _ _ (back (c .before .held5 .ok) (c .before .held5 .ensures))
+greater-requires c κs = above _ _ (back (c .before .held6 .ok) (c .before .held6 .ensures))
 
 held-requires-11 : tie.Need-held-requires-11
 held-requires-11 c κs =
@@ -51,16 +51,22 @@ held-requires-12 c κs =
     let s = c .before .before .before .before .before .before .before .before .before .before .before .before .before .before .before .before .before .before in
     (s .pre .0, omega arith, omega arith, s .pre .1)
 
+held-requires-13 : tie.Need-held-requires-13
+held-requires-13 c κs =
+    let s = c .before .before .before .before .before .before .before .before .before .before .before .before .before .before .before .before .before .before .before in
+    (s .pre .0, omega arith, omega arith, s .pre .1)
+
 returns : tie.Need-returns
 unfolding termsBy
 returns c =
-    let h11 = c .before in
+    let h12 = c .before in
+    let h11 = h12 .before in
     let h10 = h11 .before in
     let h9 = h10 .before in
     let h8 = h9 .before in
-    let h7 = h8 .before in
-    let g = h7 .before in
-    let h6 = g .before in
+    let g = h8 .before in
+    let h7 = g .before in
+    let h6 = h7 .before in
     let h5 = h6 .before in
     let h4 = h5 .before in
     let n = h4 .before in
@@ -77,13 +83,14 @@ returns c =
       earth = back (d .added .ok) (d .added .ensures ∙ (λ k. back (h1 .held .ok) (h1 .held .ensures) k +ℤ back (h2 .held2 .ok) (h2 .held2 .ensures) k)) i;
       lowered = back (n .negated .ok) (n .negated .ensures ∙ ap negℤ (back (h3 .held3 .ok) (h3 .held3 .ensures))) i;
       live = back (h4 .held4 .ok) (h4 .held4 .ensures) i;
-      roof = back (g .greater .ok) (g .greater .ensures ∙ (λ k. pos (max (up (back (h5 .held5 .ok) (h5 .held5 .ensures) k)) (up (back (h6 .held6 .ok) (h6 .held6 .ensures) k))))) i;
-      snow = back (h7 .held7 .ok) (h7 .held7 .ensures) i;
-      wind = back (h8 .held8 .ok) (h8 .held8 .ensures) i;
-      quake = back (h9 .held9 .ok) (h9 .held9 .ensures) i;
-      flood = back (h10 .held10 .ok) (h10 .held10 .ensures) i;
-      ice = back (h11 .held11 .ok) (h11 .held11 .ensures) i;
-      icewind = back (c .held12 .ok) (c .held12 .ensures) i;
+      straining = back (h5 .held5 .ok) (h5 .held5 .ensures) i;
+      roof = back (g .greater .ok) (g .greater .ensures ∙ (λ k. pos (max (up (back (h6 .held6 .ok) (h6 .held6 .ensures) k)) (up (back (h7 .held7 .ok) (h7 .held7 .ensures) k))))) i;
+      snow = back (h8 .held8 .ok) (h8 .held8 .ensures) i;
+      wind = back (h9 .held9 .ok) (h9 .held9 .ensures) i;
+      quake = back (h10 .held10 .ok) (h10 .held10 .ensures) i;
+      flood = back (h11 .held11 .ok) (h11 .held11 .ensures) i;
+      ice = back (h12 .held12 .ok) (h12 .held12 .ensures) i;
+      icewind = back (c .held13 .ok) (c .held13 .ensures) i;
     }
 
 pub terms-of-spec : {M : Type 1} → statement M
@@ -101,11 +108,12 @@ terms-of-spec =
     (λ c κs. search needs)
     (λ c κs. search needs)
     (λ c κs. search needs)
-    greater-requires
     (λ c κs. search needs)
+    greater-requires
     (λ c κs. search needs)
     (λ c κs. search needs)
     (λ c κs. search needs)
     held-requires-11
     held-requires-12
+    held-requires-13
     returns)

@@ -33,7 +33,7 @@ product-up r x f h e =
 -- what each call gave
 own-told : (c : tie.After-own-value) → let a = c .before .args in
     (toZ w64 (ofZ w64 (c .own-value .result)) ≡ ownOf (a .s) (a .row) (a .t))
-    × (natAbs (toZ w64 (ofZ w64 (c .own-value .result))) ≤ factorMost * (natAbs (a .t .dead) + natAbs (a .t .fluid) + natAbs (a .t .earth) + natAbs (a .t .lowered) + natAbs (a .t .live)))
+    × (natAbs (toZ w64 (ofZ w64 (c .own-value .result))) ≤ factorMost * (natAbs (a .t .dead) + natAbs (a .t .fluid) + natAbs (a .t .earth) + natAbs (a .t .lowered) + natAbs (a .t .live) + natAbs (a .t .straining)))
 own-told c =
     let q = read (c .own-value .result) (c .own-value .ok) in
     (q ∙ c .own-value .ensures .0, omega (arith, ap natAbs q, c .own-value .ensures .1))
@@ -77,10 +77,10 @@ added-told c =
     (c .added .ensures, omega (arith, ap natAbs (c .added .ensures), abs-add (toZ w64 (ofZ w64 (o .own-value .result))) (toZ w64 (ofZ w64 (g .greater .result)))))
 
 with-term-requires : tie.Need-with-term-requires
-with-term-requires c κs = let s = c .before .before in (s .pre .0, omega arith, omega arith, s .pre .1, room-read (pos 0) (s .args .t .roof) (omega arith) (omega arith) (omega arith))
+with-term-requires c κs = let s = c .before .before in (s .pre .0, omega arith, omega arith, s .pre .1, room-read (pos 0) (s .args .t .roof) (omega arith) (omega arith) (omega arith), s .pre .3)
 
 with-term-requires-2 : tie.Need-with-term-requires-2
-with-term-requires-2 c κs = let s = c .before .before .before .before in (s .pre .0, omega arith, omega arith, s .pre .1, room-read (pos 0) (s .args .t .snow) (omega arith) (omega arith) (omega arith))
+with-term-requires-2 c κs = let s = c .before .before .before .before in (s .pre .0, omega arith, omega arith, s .pre .1, room-read (pos 0) (s .args .t .snow) (omega arith) (omega arith) (omega arith), s .pre .3)
 
 greater-requires : tie.Need-greater-requires
 greater-requires c κs =
@@ -100,7 +100,7 @@ with-singles-requires c κs =
     let o = g .before .before .before .before .before in
     let s = o .before in
     let h : natAbs (c .added .result) + factorMost * singlesSize (s .args .t) < 2 ^ 63 = omega (arith, own-told o .1, greater-told g .1, added-told c .1, s .pre .2 .small) in
-    (s .pre .0, s .pre .1, rw (back (c .added .result) (omega arith)) h)
+    (s .pre .0, s .pre .1, rw (back (c .added .result) (omega arith)) h, s .pre .3)
 
 returns : tie.Need-returns
 unfolding valueOf

@@ -8,6 +8,7 @@ use mir.Syntax.{w64}
 use mir.Val.{toZ, ofZ}
 use Rattle.standard.proofs.Facts.{factor-le}
 use Rattle.standard.specs.declared.Settings.{Settings}
+use Rattle.standard.specs.Range.{SettingsInRange}
 use Rattle.standard.specs.Rows.{factorOf, lowOf}
 use Rattle.optimum.specs.Row.{lowerOf}
 use Rattle.terms.specs.Value.{factorMost}
@@ -20,8 +21,8 @@ lower-is : (s : Settings) (row : ℕ) → lowerOf s row 3 ≡ min (lowOf s) (fac
 unfolding lowerOf
 lower-is s row = refl
 
-lower-le : (s : Settings) (row : ℕ) → lowerOf s row 3 ≤ factorMost
-lower-le s row = omega (arith, lower-is s row, factor-le s row 3)
+lower-le : (s : Settings) (row : ℕ) → SettingsInRange s → lowerOf s row 3 ≤ factorMost
+lower-le s row range = omega (arith, lower-is s row, factor-le s row 3 range)
 
 factor-is : (c : tie.After-signed) → let a = c .before .before .before .before .args in c .signed .result ≡ pos (lowerOf (a .s) (a .row) 3)
 factor-is c =
@@ -34,7 +35,7 @@ scaled-requires : tie.Need-scaled-requires
 scaled-requires c κs =
     let s = c .before .before .before .before in
     let a = s .args in
-    term-room (a .total) (c .signed .result) (a .x) (lowerOf (a .s) (a .row) 3) (factor-is c) (lower-le (a .s) (a .row))
+    term-room (a .total) (c .signed .result) (a .x) (lowerOf (a .s) (a .row) 3) (factor-is c) (lower-le (a .s) (a .row) (s .pre .3))
     (s .fits .total .sfits) (c .signed .ok) (s .fits .x .sfits) (s .pre .2)
 
 returns : tie.Need-returns
@@ -42,7 +43,7 @@ returns c =
     let f = c .before in
     let s = f .before .before .before .before in
     let a = s .args in
-    term-gained (a .total) (f .signed .result) (a .x) (lowerOf (a .s) (a .row) 3) (factor-is f) (lower-le (a .s) (a .row))
+    term-gained (a .total) (f .signed .result) (a .x) (lowerOf (a .s) (a .row) 3) (factor-is f) (lower-le (a .s) (a .row) (s .pre .3))
     (s .fits .total .sfits) (f .signed .ok) (s .fits .x .sfits) (c .scaled .result) (c .scaled .ok) (c .scaled .ensures)
 
 pub with-lowered-spec : {M : Type 1} → statement M

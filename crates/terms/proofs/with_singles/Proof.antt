@@ -46,31 +46,31 @@ with-term-requires : tie.Need-with-term-requires
 with-term-requires c κs =
     let s = c .before in
     let h : natAbs (s .args .total) + factorMost * natAbs (s .args .t .wind) < 2 ^ 63 = omega (arith, s .pre .2) in
-    (s .pre .0, omega arith, omega arith, s .pre .1, room-read (s .args .total) (s .args .t .wind) (omega arith) (omega arith) h)
+    (s .pre .0, omega arith, omega arith, s .pre .1, room-read (s .args .total) (s .args .t .wind) (omega arith) (omega arith) h, s .pre .3)
 
 with-term-requires-2 : tie.Need-with-term-requires-2
 with-term-requires-2 c κs =
     let s = c .before .before .before in
     let h : natAbs (c .before .with-term .result) + factorMost * natAbs (s .args .t .quake) < 2 ^ 63 = omega (arith, s .pre .2, wind-told (c .before) .small) in
-    (s .pre .0, omega arith, omega arith, s .pre .1, room-read (c .before .with-term .result) (s .args .t .quake) (omega arith) (omega arith) h)
+    (s .pre .0, omega arith, omega arith, s .pre .1, room-read (c .before .with-term .result) (s .args .t .quake) (omega arith) (omega arith) h, s .pre .3)
 
 with-term-requires-3 : tie.Need-with-term-requires-3
 with-term-requires-3 c κs =
     let s = c .before .before .before .before .before in
     let h : natAbs (c .before .with-term2 .result) + factorMost * natAbs (s .args .t .flood) < 2 ^ 63 = omega (arith, s .pre .2, quake-told (c .before) .small, wind-told (c .before .before .before) .small) in
-    (s .pre .0, omega arith, omega arith, s .pre .1, room-read (c .before .with-term2 .result) (s .args .t .flood) (omega arith) (omega arith) h)
+    (s .pre .0, omega arith, omega arith, s .pre .1, room-read (c .before .with-term2 .result) (s .args .t .flood) (omega arith) (omega arith) h, s .pre .3)
 
 with-term-requires-4 : tie.Need-with-term-requires-4
 with-term-requires-4 c κs =
     let s = c .before .before .before .before .before .before .before in
     let h : natAbs (c .before .with-term3 .result) + factorMost * natAbs (s .args .t .ice) < 2 ^ 63 = omega (arith, s .pre .2, flood-told (c .before) .small, quake-told (c .before .before .before) .small, wind-told (c .before .before .before .before .before) .small) in
-    (s .pre .0, omega arith, omega arith, s .pre .1, room-read (c .before .with-term3 .result) (s .args .t .ice) (omega arith) (omega arith) h)
+    (s .pre .0, omega arith, omega arith, s .pre .1, room-read (c .before .with-term3 .result) (s .args .t .ice) (omega arith) (omega arith) h, s .pre .3)
 
 with-term-requires-5 : tie.Need-with-term-requires-5
 with-term-requires-5 c κs =
     let s = c .before .before .before .before .before .before .before .before .before in
     let h : natAbs (c .before .with-term4 .result) + factorMost * natAbs (s .args .t .icewind) < 2 ^ 63 = omega (arith, s .pre .2, ice-told (c .before) .small, flood-told (c .before .before .before) .small, quake-told (c .before .before .before .before .before) .small, wind-told (c .before .before .before .before .before .before .before) .small) in
-    (s .pre .0, omega arith, omega arith, s .pre .1, room-read (c .before .with-term4 .result) (s .args .t .icewind) (omega arith) (omega arith) h)
+    (s .pre .0, omega arith, omega arith, s .pre .1, room-read (c .before .with-term4 .result) (s .args .t .icewind) (omega arith) (omega arith) h, s .pre .3)
 
 returns : tie.Need-returns
 unfolding singlesOf

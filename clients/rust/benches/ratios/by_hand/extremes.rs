@@ -2,7 +2,7 @@
 
 use super::cases::{cases, Ends, Ranked, Sums};
 use super::rows::{governing, Terms, ROWS};
-use super::sheet::{Places, Sheet, D, DI, E, F, FA, HP, HV, L, LR, R, S, W, WI};
+use super::sheet::{Places, Sheet, D, DI, E, F, FA, HP, HV, L, LR, R, S, T, W, WI};
 
 pub struct Extreme {
     pub value: i64,
@@ -53,6 +53,7 @@ struct Direction {
     flood: Ends,
     ice: Ends,
     wind_on_ice: Ends,
+    straining: Sums,
 }
 
 impl Direction {
@@ -74,6 +75,7 @@ impl Direction {
             flood: ends(places[FA]),
             ice: ends(places[DI]),
             wind_on_ice: ends(places[WI]),
+            straining: sums(T),
         }
     }
 
@@ -93,6 +95,7 @@ impl Direction {
             flood: self.flood.opposite(),
             ice: self.ice.opposite(),
             wind_on_ice: self.wind_on_ice.opposite(),
+            straining: self.straining.opposite(),
         }
     }
 
@@ -111,6 +114,7 @@ impl Direction {
             flood: self.flood.up.effect(),
             ice: self.ice.up.effect(),
             wind_on_ice: self.wind_on_ice.up.effect(),
+            straining: self.straining.above,
         }
     }
 
@@ -131,7 +135,12 @@ impl Direction {
             | one(f.earthquake, self.earthquake.up)
             | one(f.flood, self.flood.up)
             | one(f.ice, self.ice.up)
-            | one(f.wind_on_ice, self.wind_on_ice.up);
+            | one(f.wind_on_ice, self.wind_on_ice.up)
+            | if f.strained {
+                self.straining.cases_above
+            } else {
+                0
+            };
         (acting, with(f.earth, self.permanent.cases_below))
     }
 }

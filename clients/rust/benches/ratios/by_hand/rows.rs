@@ -23,6 +23,8 @@ pub struct Factors {
     pub flood: i64,
     pub ice: i64,
     pub wind_on_ice: i64,
+    /// Whether T acts, at the factor of the sheet.
+    pub strained: bool,
 }
 
 /// By row number. The numbers between the two methods are no rows, and all 0.
@@ -63,6 +65,8 @@ pub const ROWS: [Factors; 44] = {
     rows[41] = ice(rows[22], 0, 700, 0);
     rows[42] = ice(rows[23], 1000, 700, 700);
     rows[43] = ice(rows[29], 0, 700, 700);
+    rows[1].strained = false;
+    rows[21].strained = false;
     rows
 };
 
@@ -83,6 +87,7 @@ const fn factors(low: i64, columns: [i64; 10]) -> Factors {
         flood,
         ice: 0,
         wind_on_ice: 0,
+        strained: true,
     }
 }
 
@@ -123,6 +128,8 @@ pub struct Terms {
     pub flood: i64,
     pub ice: i64,
     pub wind_on_ice: i64,
+    /// The effects of T that are above 0.
+    pub straining: i64,
 }
 
 /// The greatest factored effect of the open rows, and the first row that reaches it.
@@ -138,11 +145,13 @@ pub fn governing(settings: Settings, t: &Terms) -> Governing {
         value: i64::MIN,
         row: 0,
     };
+    let strained = i64::from(settings.straining) * t.straining;
     // Each row number is a constant, so that the compiler folds the factors in, drops those of 0 and shares sums among rows.
     macro_rules! compare {
         ($($row:literal)*) => {{
             $(
-                let value = const { &ROWS[$row] }.value(settings.live, t);
+                let factors = const { &ROWS[$row] };
+                let value = factors.value(settings.live, t) + if factors.strained { strained } else { 0 };
                 if value > best.value {
                     best = Governing { value, row: $row };
                 }
@@ -174,7 +183,7 @@ pub fn governing(settings: Settings, t: &Terms) -> Governing {
 }
 
 impl Factors {
-    /// The greatest factored effect of the row, its terms in the order in which rows share the most.
+    /// The greatest factored effect of the row without T, its terms in the order in which rows share the most.
     #[inline(always)]
     fn value(&self, live: u8, t: &Terms) -> i64 {
         let live = if live == 1 {

@@ -15,6 +15,7 @@ pub const E: usize = 10;
 pub const FA: usize = 11;
 pub const DI: usize = 12;
 pub const WI: usize = 13;
+pub const T: usize = 14;
 
 #[derive(Clone, Copy)]
 pub struct Settings {
@@ -22,6 +23,8 @@ pub struct Settings {
     pub live: u8,
     pub zone: u8,
     pub ice: bool,
+    /// The factor of T, in thousandths.
+    pub straining: u16,
 }
 
 /// The settings of a fresh sheet.
@@ -30,10 +33,11 @@ pub const SETTINGS: Settings = Settings {
     live: 0,
     zone: 0,
     ice: false,
+    straining: 1000,
 };
 
 /// The cases of each kind, as sets.
-pub type Places = [u32; 14];
+pub type Places = [u32; 15];
 
 #[derive(Clone, Copy)]
 pub struct Sheet {
@@ -62,7 +66,7 @@ impl Sheet {
         Sheet {
             settings,
             kinds: [0; 32],
-            places: [0; 14],
+            places: [0; 15],
             effects: [[[0; 32]; 3]; 16],
             capacities: [[0; 3]; 16],
         }
@@ -86,7 +90,8 @@ impl Sheet {
             (6, &[station, component]) => return asked_extremes(station, component),
             (7, &[station]) => return self.asked_utilisation(station),
             (8, &[ice]) => self.set_ice(ice)?,
-            (1..=8, _) => return Err(2),
+            (9, &[high, low]) => self.set_straining(u16::from_be_bytes([high, low]))?,
+            (1..=9, _) => return Err(2),
             _ => return Err(1),
         }
         Ok(Asked::Nothing)
@@ -100,7 +105,7 @@ impl Sheet {
             method,
             live,
             zone,
-            ice: false,
+            ..SETTINGS
         });
         Ok(())
     }
@@ -113,9 +118,21 @@ impl Sheet {
         Ok(())
     }
 
+    fn set_straining(&mut self, factor: u16) -> Result<(), Refused> {
+        let limits = match self.settings.method {
+            1 => 1000..=2000,
+            _ => 750..=1000,
+        };
+        if !limits.contains(&factor) {
+            return Err(15);
+        }
+        self.settings.straining = factor;
+        Ok(())
+    }
+
     fn add(&mut self, case: u8, kind: u8) -> Result<(), Refused> {
         let held = self.kinds.get_mut(usize::from(case)).ok_or(5)?;
-        if !(1..=13).contains(&kind) {
+        if !(1..=14).contains(&kind) {
             return Err(7);
         }
         if *held != 0 {
@@ -180,10 +197,15 @@ impl Sheet {
             live,
             zone,
             ice,
+            straining,
         } = self.settings;
         let mut at = put(out, 0, [1, 0, 3, method, live, zone]);
         if ice {
             at = put(out, at, [8, 0, 1, 1]);
+        }
+        if straining != 1000 {
+            let [high, low] = straining.to_be_bytes();
+            at = put(out, at, [9, 0, 2, high, low]);
         }
         for (case, &kind) in self.kinds.iter().enumerate() {
             if kind == 0 {

@@ -6,7 +6,7 @@
 
 use super::cases::{above, cases, greatest};
 use super::rows::{governing, Governing, Terms, ROWS};
-use super::sheet::{Places, Settings, Sheet, D, DI, E, F, FA, HP, HV, L, LR, R, S, W, WI};
+use super::sheet::{Places, Settings, Sheet, D, DI, E, F, FA, HP, HV, L, LR, R, S, T, W, WI};
 
 pub struct Utilisation {
     pub numerator: u64,
@@ -64,6 +64,7 @@ impl Station<'_> {
         let (wind, earthquake) = (self.greatest(p[W]), self.greatest(p[E]));
         let flood = self.greatest(p[FA]);
         let (ice, wind_on_ice) = (self.greatest(p[DI]), self.greatest(p[WI]));
+        let straining = self.above(p[T]);
         let terms = |i: usize| Terms {
             dead: dead[i],
             fluid: fluid[i],
@@ -77,6 +78,7 @@ impl Station<'_> {
             flood: flood[i],
             ice: ice[i],
             wind_on_ice: wind_on_ice[i],
+            straining: straining[i],
         };
         let (mut best, mut pattern) = (i64::MIN, 0);
         for i in 0..8 {
@@ -156,7 +158,8 @@ impl Station<'_> {
         let sum: i64 = cases(p[F]).map(effect).sum();
         let full = if sum > 0 { p[F] } else { 0 };
         let permanent = with(f.earth, p[HP]);
-        let free = with(f.earth, p[HV]) | with(f.live, p[L]);
+        let strained = if f.strained { p[T] } else { 0 };
+        let free = with(f.earth, p[HV]) | with(f.live, p[L]) | strained;
         let acting = p[D]
             | with(f.fluid, full)
             | permanent

@@ -31,7 +31,7 @@ extremes-of-requires c κs =
     let s = d .before in
     let w = whole (s .args .self) (s .args .effects .now) in
     let r = extremes-range (s .args .station) (s .args .component) (sym (d .due-extremes .ensures) ∙ c .before .before .before .if1 .taken) in
-    (subst (StationInRange (w .kinds)) (sym (part-is w (s .args .station))) (station-in-range w (s .args .station) (s .pre) (r .0)), r .1)
+    (subst (StationInRange (w .kinds)) (sym (part-is w (s .args .station))) (station-in-range w (s .args .station) (s .pre) (r .0)), r .1, s .pre .settings)
 
 returns : tie.Need-returns
 unfolding extremesAt

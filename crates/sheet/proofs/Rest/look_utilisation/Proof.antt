@@ -61,6 +61,7 @@ utilisation-of-requires c κs =
     let r = held d (c .before .before .if1 .taken) in (
       subst (StationInRange (w .kinds)) (sym (part-is w t)) (station-in-range w t (s .pre) (r .0)),
       subst CapacitiesInRange (sym (capacities-read w t)) (capacities-in-range w t (s .pre) (r .0) (r .1)),
+      s .pre .settings,
     )
 
 returns : tie.Need-returns
