@@ -430,6 +430,26 @@ def pair():
     return b
 
 
+def held():
+    """Point 12: the sums of D and F effects (SCOPE 2.7). The lists worked by hand; D and F cases set, set again, dropped and given another
+    kind; refused fields in between; tag 01; a sheet read from its saved form; 32 cases with effects at their limits, sums to 320,000."""
+    m.check_held()
+    worked = m.held_worked()
+    for fields, steps in zip(worked, m.HELD_WORKED):
+        got = [struct.unpack('>qBI4xqBI4x', a[3:]) for _, a in run(b''.join(fields))[1] if a[0] == 0x86]
+        for one, (_, high, low) in zip(got, steps):
+            assert (one[0], one[3]) == (high[0], low[0]) and high[1:] in ((None, None), one[1:3]) and low[1:] in ((None, None), one[4:]), one
+    refused = m.REFUSED + m.REFUSED_TOO
+    lists = [m.looked_at(m.one_place((st, st + 1)), (st, st + 1), True) for st in (0, 14)]
+    lists += [m.looked_at(m.several_cases(refused), (14, 15), True), m.looked_at(m.restored(), (0, 15), True)]
+    lists += [m.looked_at(m.at_the_limits(dead, 32 - dead), (0, 15), True) for dead in (32, 16, 0)]
+    b = b''.join(b''.join(fields) for fields in worked + lists)
+    due(b, [9] + [no for _, no in refused])
+    numbers = [struct.unpack('>q9xq9x', a[3:]) for _, a in run(b''.join(lists[4]))[1] if a[0] == 0x86]
+    assert numbers[0] == (1400 * 320000, 900 * 320000) and numbers[3] == (-900 * 320000, -1400 * 320000), numbers
+    return b
+
+
 def long_fields():
     """Whole fields of the greatest length: an unknown tag, a known one; the sheet stays."""
     look = f(6, 0, 0) + f(7, 0)
@@ -441,7 +461,7 @@ def long_fields():
 
 POINTS = {'1_worked_exchange_p2': lambda: P2_IN, '2_each_refusal': refusals, '3_refusal_orders': orders, '4_p1_to_p10': frames_by_hand,
           '5_methods_zones_live_options': every_setting, '6_groups': groups, '7_long_fields': long_fields,
-          '8_ice': ice, '9_fluid': fluid, '10_pair': pair, '11_straining': straining}
+          '8_ice': ice, '9_fluid': fluid, '10_pair': pair, '11_straining': straining, '12_held': held}
 BUFFER = 65536  # what `frames` reads in one turn, at most
 
 

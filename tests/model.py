@@ -434,6 +434,29 @@ PAIRS_WORKED = [
 ]
 
 
+def on_n(case, n):
+    return f(3, case, 0, effects(n, 0, 0))
+
+
+# SCOPE 11.5: lists in steps, each with a look at N of station 0 to follow: fields, the maximum and the minimum, each with its row and its
+# acting cases; None for both where several combinations reach it.
+HELD_WORKED = [
+    [([f(1, 1, 0, 0), f(2, 0, D), on_n(0, 100), f(2, 1, L), on_n(1, 50)], (200000, 2, 0b11), (90000, None, None)),
+     ([f(4, 0)], (80000, 2, 0b10), (0, None, None))],
+    [([f(1, 1, 0, 0), f(2, 0, D), on_n(0, 100), f(2, 1, D), on_n(1, 40), f(2, 2, L), on_n(2, 50), f(2, 3, W), on_n(3, -200)],
+      (248000, 2, 0b0111), (-74000, 7, 0b1011)),
+     ([on_n(0, 70)], (212000, 2, 0b0111), (-101000, 7, 0b1011)),
+     ([on_n(0, 10001)], (212000, 2, 0b0111), (-101000, 7, 0b1011)),
+     ([f(4, 0)], (128000, 2, 0b0110), (-164000, 7, 0b1010))],
+    [([f(1, 1, 0, 0), f(2, 0, D), on_n(0, 100), f(2, 1, F), on_n(1, 30), f(2, 2, F), on_n(2, 20), f(2, 3, E), on_n(3, -300)],
+      (210000, 1, 0b0111), (-210000, 8, 0b1001)),
+     ([f(4, 1)], (168000, 1, 0b0101), (-210000, 8, 0b1001)),
+     ([on_n(2, -60)], (140000, 1, 0b0001), (-264000, 8, 0b1101)),
+     ([f(4, 2)], (140000, 1, 0b0001), (-210000, 8, 0b1001)),
+     ([f(2, 2, D)], (140000, 1, 0b0101), (-210000, 8, 0b1101))],
+]
+
+
 def value(rng):
     return rng.choice([0, 0, 1, -1, 10000, -10000, 100, 100, -100, 9999, rng.randint(-10000, 10000), rng.randint(-300, 300),
                        rng.randint(-300, 300)])
@@ -513,7 +536,7 @@ def edits(rng, filled, st, bad):
     return out
 
 
-def generate(rng, looks=185):
+def generate(rng, looks=149):
     out = []
     bad = itertools.cycle(BAD)
     for fields, _, _ in worked():
@@ -697,6 +720,110 @@ def straining_utilisations():
     return out
 
 
+def held_worked():
+    """HELD_WORKED as fields, each step with its look."""
+    return [[b for step, _, _ in steps for b in step + [f(6, 0, 0)]] for steps in HELD_WORKED]
+
+
+def two_stations(stations, case, kind, *at):
+    """A case with effects at two stations."""
+    return [f(2, case, kind)] + [f(3, case, st, effects(*e)) for st, e in zip(stations, at)]
+
+
+# Fields that are refused on the sheet of `several_cases`, and the number of each. The values that are within their limits are none of
+# the sheet's, so that an effect counted in part would show.
+REFUSED = [
+    (f(3, 0, 15, effects(500, 600, 10001)), 9), (f(3, 6, 15, effects(400, 300, 200)), 12), (f(3, 0, 16, effects(90, 80, 70)), 6),
+    (f(3, 32, 15, effects(90, 80, 70)), 5), (f(4, 6), 12), (f(2, 0, F), 11), (f(4, 0, 0), 2), (f(0x7F, 0, 15, 1, 0, 1, 0, 1, 0), 1),
+    (f(1, 1, 0, 3), 4),
+]
+REFUSED_TOO = [
+    (f(3, 1, 14, effects(-10001, 600, 300)), 9), (f(3, 30, 15, effects(7, 32767, 7)), 9), (f(3, 7, 14, effects(1, 1, 1)), 12),
+    (f(3, 1, 255, effects(90, 80, 70)), 6), (f(3, 255, 14, effects(90, 80, 70)), 5), (f(4, 32), 5), (f(4, 7), 12), (f(2, 1, D), 11),
+    (f(2, 31, L), 11), (f(2, 6, 15), 7), (f(2, 32, D), 5), (f(3, 0, 15, effects(90, 80, 70), 0), 2), (f(3, 0, 15, effects(90, 80, 70)[:5]), 2),
+    (f(4), 2), (f(2, 6), 2), (f(1, 1, 0), 2), (f(1, 1, 0, 0, 0), 2), (f(1, 3, 0, 0), 4), (f(1, 2, 2, 0), 4), (f(8, 2), 4), (f(9, word(0)), 15),
+    (f(5, 15, caps(1, 1, 0)), 10), (f(6, 16, 0), 6), (f(7, 13), 13), (f(0x0A, 0), 1),
+]
+
+
+def one_place(stations=(0, 1)):
+    """Steps: the case of one place set, set again, set to 0, dropped, filled as another kind and as the first again; at the end a D case
+    and an F case."""
+    a, b = stations
+    put = lambda st, *e: f(3, 3, st, effects(*e))
+    return [
+        [f(1, 1, 0, 0), f(5, a, caps(270, 90, 70)), f(5, b, caps(80, 150, 60))] + two_stations(stations, 8, L, (50, -10, 25), (-30, 60, 5))
+        + two_stations(stations, 3, D, (100, -40, 7), (-35, 20, 60)),
+        [put(a, 70, -90, 12)], [put(b, 0, 0, 0)], [f(4, 3)], [f(2, 3, F)], [put(a, 60, 25, -80), put(b, -20, 45, 9)],
+        [put(a, -45, 80, 30)], [f(4, 3), f(2, 3, D)], [put(b, 15, -5, 40)], [f(4, 3), f(2, 3, E), put(b, 33, 22, -11)],
+        [f(4, 3), f(2, 3, D), put(a, 9, -11, 13)], [f(4, 8)], [f(4, 3), f(2, 3, F), put(a, 21, 4, -6)], [f(4, 3)],
+        two_stations(stations, 3, D, (75, -20, 34), (-11, 83, 6)) + two_stations(stations, 4, F, (19, 62, -41), (29, 8, 53)),
+    ]
+
+
+def several_cases(refused, stations=(14, 15)):
+    """Steps: two D cases and two F cases; the refused fields, one a step; one case of each kind dropped, and the others given another kind;
+    tag 01, and a case again."""
+    a, b = stations
+    capacities = [f(5, a, caps(400, 300, 200)), f(5, b, caps(150, 350, 250))]
+    return [
+        [f(1, 2, 1, 1), f(8, 1)] + capacities + two_stations(stations, 0, D, (110, -45, 31), (-60, 70, 12))
+        + two_stations(stations, 31, D, (-25, 85, 14), (95, -15, -40)) + two_stations(stations, 1, F, (42, 17, -66), (-28, 39, 51))
+        + two_stations(stations, 30, F, (-13, 58, 24), (47, -74, 5)) + two_stations(stations, 5, W, (-90, 20, 65), (35, -55, 75)),
+        *([b] for b, _ in refused),
+        [f(4, 31)], [f(4, 1)], [f(8, 0)], [f(9, word(800)), f(5, b, caps(160, 340, 230))], [f(4, 0), f(2, 0, F), f(3, 0, b, effects(64, -8, 19))],
+        [f(4, 30), f(2, 30, D), f(3, 30, a, effects(-37, 26, 48))], [f(1, 2, 0, 0)] + capacities,
+        two_stations(stations, 30, D, (18, 29, -10), (7, -6, 16)),
+    ]
+
+
+def restored(stations=(0, 15)):
+    """Steps: a sheet, the same read from its saved form, edited, and once more."""
+    a, b = stations
+    first = [f(1, 1, 1, 2), f(9, word(1200)), f(5, a, caps(500, 200, 100)), f(5, b, caps(90, 60, 120))]
+    first += two_stations(stations, 2, D, (80, -35, 16), (-55, 23, 41)) + two_stations(stations, 29, F, (38, 61, -27), (12, -44, 33))
+    first += two_stations(stations, 9, T, (14, -19, 8), (-5, 10, 6))
+    second = [f(3, 2, a, effects(-66, 52, 3)), f(3, 29, b, effects(0, 71, -9))]
+    third = [f(4, 29)]
+    return [first, saved_after(first), second, third, saved_after(first + second + third), [f(3, 2, b, effects(1, 2, 4))], [f(4, 2)]]
+
+
+def at_the_limits(dead, fluid, stations=(0, 15)):
+    """Steps: so many D cases and F cases, all with effects at their limits; one of each set to the other limit, then dropped."""
+    a, b = stations
+    high, low = (10000, -10000, 10000), (-10000, 10000, -10000)
+    out = [[f(1, 1, 0, 0), f(5, a, caps(10000, 10000, 10000)), f(5, b, caps(1, 1, 1))]]
+    out[0] += [x for c in range(dead) for x in two_stations(stations, c, D, high, low)]
+    out[0] += [x for c in range(32 - fluid, 32) for x in two_stations(stations, c, F, low, high)]
+    for c in [0] * (dead > 0) + [31] * (fluid > 0):
+        out += [[f(3, c, a, effects(*(low if c == 0 else high)))], [f(4, c)]]
+    return out
+
+
+def looked_at(steps, stations, every=False):
+    """The steps, each with looks at the two stations to follow: every look, or one component of the one and the utilisation of the other."""
+    out = []
+    for i, step in enumerate(steps):
+        a, b = stations if i % 2 else stations[::-1]
+        looks = [f(6, st, k) for st in stations for k in range(3)] + [f(7, st) for st in stations]
+        out += step + (looks if every else [f(6, a, i % 3), f(7, b)])
+    return out
+
+
+def held():
+    """Lists on the sums of D and F effects (SCOPE 2.7), on sheets that are small enough to enumerate. The last one leaves such sums."""
+    out = looked_at(several_cases(REFUSED), (14, 15)) + looked_at(at_the_limits(4, 0), (0, 15))
+    return out + looked_at(one_place(), (0, 1))
+
+
+def saved_after(edits):
+    """The fields of the saved form of the sheet that these edits make."""
+    s = Sheet()
+    for b in edits:
+        s, _ = serve(s, b, None)
+    return fields_of(s.saved())
+
+
 def fields_of(b):
     """The whole fields in these bytes."""
     out, at = [], 0
@@ -709,7 +836,8 @@ def fields_of(b):
 
 def long_fields():
     """Whole fields of the greatest length, refused with 1 and 2; one of a length above it that is wholly there, refused with 3."""
-    return [f(0x7F, bytes(60000)), f(1, bytes(60000)), f(6, 0, 0), f(2, bytes(60001))]
+    looks = [f(6, 0, 0), f(7, 1)]
+    return [f(0x7F, bytes(60000)), f(1, bytes(60000))] + looks + [f(2, bytes(60001))] + looks
 
 
 def check_worked(rng):
@@ -791,27 +919,58 @@ def check_straining():
         assert found == ((hi, set(rows_hi)), (lo, set(rows_lo))), (cases, how, found)
 
 
-def main():
-    here = os.path.dirname(os.path.abspath(__file__))
-    rng = random.Random(20)
-    check_worked(rng)
-    check_ice(rng)
-    check_fluid()
-    check_straining()
-    # The last readings get a 3, where a service stops: a length above 60,000, and a field that is cut short.
+def combinations_reaching(s, sign):
+    """The greatest N at station 0 (sign 1) or the least (-1), the row and the acting cases, None for both where several combinations reach it."""
+    every = [(sign * sum(fa * s.eff(c, 0)[0] for c, fa, _ in t), r, a) for r, t, a, _ in s.combos()]
+    best = [x for x in every if x[0] == max(every)[0]]
+    return (sign * best[0][0],) + (best[0][1:] if len(best) == 1 else (None, None))
+
+
+def check_held():
+    """The lists of SCOPE 11.5 give the numbers worked by hand, in these rows with these cases."""
+    for steps in HELD_WORKED:
+        s = Sheet()
+        for step, high, low in steps:
+            for b in step:
+                s, a = serve(s, b, None)
+                assert a == (b'\x81\0\1\x09' if b == on_n(0, 10001) else b'\x80\0\0'), (b, a)
+            found = combinations_reaching(s, 1), combinations_reaching(s, -1)
+            assert found == (high, low), (step, found)
+
+
+def readings(rng):
+    """The readings of `recheck_run`. Two get a 3, where a service stops: a length above 60,000, and at the end a field that is cut short."""
     ice = [b for fields in ice_sheets() for b in fields] + ice_switch()
     fluid = [b for fields in fluid_sheets() for b in fields] + fluid_rows() + fluid_utilisations()
     straining = [b for fields in straining_sheets() for b in fields] + straining_set() + straining_utilisations()
     groups = together(settings=[(1, 1), (2, 1), (2, 2)], sets=TOGETHER[4:])
-    fields = before_any_settings() + BAD + generate(rng) + groups + saved_forms() + ice + fluid + straining
-    fields += long_fields() + [bytes.fromhex('01000301')]
+    fields = before_any_settings() + BAD + generate(rng) + groups + saved_forms() + ice + fluid + straining + held()
+    return fields + long_fields() + [bytes.fromhex('01000301')]
+
+
+def seeded():
+    """The random numbers that the stored readings are made with."""
+    rng = random.Random(20)
+    check_worked(rng)
+    check_ice(rng)
+    return rng
+
+
+def main():
+    here = os.path.dirname(os.path.abspath(__file__))
+    check_fluid()
+    check_straining()
+    check_held()
+    rng = seeded()
+    fields = readings(rng)
     s, answers = Sheet(), []
     for b in fields:
         s, a = serve(s, b, rng)
         assert len(s.kind) <= 7
         answers.append(a)
     raw = b''.join(fields)
-    assert len(raw) < 262144 and len(fields) * 37 < 131072, (len(raw), len(fields))  # the buffers of recheck_run
+    # The buffers of recheck_run: the input, and 37 bytes for the answer to each field of the whole input in one list.
+    assert len(raw) < 262144 and len(fields) * 37 <= 262144, (len(raw), len(fields))
     with open(os.path.join(here, '..', 'crates', 'recheck_run', 'stdin'), 'wb') as o:
         o.write(raw)
     tags = [a[0] for a in answers]

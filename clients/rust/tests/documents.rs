@@ -11,7 +11,7 @@ mod reference;
 use std::collections::BTreeMap;
 
 use combination::{low_factor, open_rows};
-use frames::bytes::{answer, ANSWER, SAVED};
+use frames::bytes::{answer, run, ANSWER, SAVED};
 use frames::{Kind, LiveOption, Method, Refusal, Row, Zone};
 
 const FIELDS: &str = include_str!("../../../docs/FIELDS.md");
@@ -350,19 +350,45 @@ fn kinds_of_the_documents() {
     }
 }
 
-/// Fields stand from column 4 on and answers from column 42 on.
-#[test]
-fn worked_exchange_of_the_fields_document() {
-    let (_, section) = FIELDS.split_once("\n## A worked exchange\n").unwrap();
-    let (section, _) = section.split_once("\n## ").unwrap();
+/// The fields and the answers of an exchange: fields stand from column 4 on and answers from column 42 on.
+fn exchange(section: &str) -> (Vec<u8>, Vec<u8>) {
     let (mut input, mut expected) = (Vec::new(), Vec::new());
     for line in section.lines().filter(|line| line.starts_with("    ")) {
         input.extend(hexadecimal(&line[4..42]));
         expected.extend(hexadecimal(&line[42..]));
     }
+    (input, expected)
+}
+
+#[test]
+fn worked_exchange_of_the_fields_document() {
+    let (_, section) = FIELDS.split_once("\n## A worked exchange\n").unwrap();
+    let (section, _) = section.split_once("\n## ").unwrap();
+    let (input, expected) = exchange(section);
     let mut output = [0; 20 * ANSWER];
     let written = answer(&[], &input, &mut output).unwrap();
     assert_eq!(output[..written], expected);
+}
+
+/// SCOPE 11.5, as one list, and each field on the sheet as it was saved before it.
+#[test]
+fn dropped_cases_of_the_scope_document() {
+    let (_, section) = SCOPE.split_once("\n### 11.5 ").unwrap();
+    let (section, _) = section.split_once("\n##").unwrap_or((section, ""));
+    let (input, expected) = exchange(section);
+    let fields = reference::fields(&input);
+    assert_eq!(fields.len(), 34);
+    let mut output = [0; 34 * ANSWER];
+    let written = answer(&[], &input, &mut output).unwrap();
+    assert_eq!(output[..written], expected);
+    let (mut state, mut answers) = (Vec::new(), Vec::<u8>::new());
+    for field in fields {
+        let mut saved = [0; SAVED];
+        let written = run(&state, field, &mut output, &mut saved).unwrap();
+        answers.extend(&output[..written.answers]);
+        state = saved[..written.saved].to_vec();
+    }
+    assert_eq!(answers, expected);
 }
 
 fn hexadecimal(bytes: &str) -> impl Iterator<Item = u8> + '_ {

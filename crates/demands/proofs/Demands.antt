@@ -15,7 +15,7 @@ use Rattle.sheet.specs.Sheet.{freshSheet, kindAt, capacityAt}
 use Rattle.sheet.specs.Looks.{extremesAt, utilisationAt}
 use Rattle.refusals.specs.Refusals.{dueExtremes, dueUtilisationAt}
 use Rattle.sheet.specs.Range.{InRange}
-use Rattle.sheet.proofs.Access.{long, same-sheet}
+use Rattle.sheet.proofs.Access.{well-formed, same-sheet}
 use Rattle.sheet.proofs.Promised.{extremes-govern-at, utilisation-governs-at}
 use Rattle.fields.specs.declared.Reading.{Reading}
 use Rattle.headers.specs.Headers.{lengthOf, dueHeader}
@@ -130,7 +130,7 @@ module _ (w : Sheet) (h : InRange w) where
     saved = λ out out′ n f. saving-written w out out′ n f;
     restored = λ out out′ n f s₀. read-back out out′ n f s₀;
     restores-one = λ out out′ n f s₀ s₁ r. restores-unique r (read-back out out′ n f s₀);
-    same = λ s₁ g e. same-sheet s₁ w (long g) (long h) (e .settings) (e .kinds) (e .effects) (e .capacities);
+    same = λ s₁ g e. same-sheet s₁ w (well-formed g) (well-formed h) (e .settings) (e .kinds) (e .effects) (e .capacities);
     equal = λ s₁ e. same-bytes s₁ w e;
     differ = λ s₁ g e. bytes-differ s₁ w g h e;
   }

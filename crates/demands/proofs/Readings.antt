@@ -24,7 +24,8 @@ use Rattle.saving.specs.declared.Saved.{Saved}
 use Rattle.saving.specs.declared.Saved.the-variants.{Written, Refused}
 use Rattle.saved_fields.specs.Saved.{savedBytes}
 use Rattle.saving.specs.Saving.{savedAnswer, savedOver}
-use Rattle.demands.specs.Readings.{Given, sheetFrom, Made, made, Readings, none, next, given, worksOut, Call, AnyReadings, SaveOn, ReadsFrom, Restores, no-more, one-more}
+use Rattle.restoring.proofs.RoundTrip.{in-range-made}
+use Rattle.demands.specs.Readings.{Given, sheetFrom, Made, made, ReadOn, MadeFrom, RangeIsMade, Readings, none, next, given, worksOut, Call, AnyReadings, SaveOn, ReadsFrom, Restores, no-more, one-more}
 
 -- ---- what is written over the front of an output stands there
 pub take-over : (w o : List ℕ) → take (length w) (over w o) ≡ w
@@ -65,6 +66,20 @@ worked-in-range ms = after-in-range freshSheet (map given ms) fresh-kept
 -- ---- bytes read through, with room for an answer
 with-room : {w : List ℕ} {s : Sheet} {m : Made} → ReadsFrom w s m → m .result ≡ readField w answerRoom s
 with-room {w} {s} {m} f = f .read .reading ∙ ap (λ (x : List ℕ). readField x (length (m .out)) s) (f .input) ∙ same-with-room w s (length (m .out)) (f .room)
+
+-- bytes that are read through are a list of readings
+through : {w : List ℕ} {s t : Sheet} → ReadThrough w s t → MadeFrom s t
+through end = record { list = []; readings = none }
+through {s = s} (field {b} {bs} e r) =
+    let more = through r in
+    let out : List ℕ = replicate answerRoom 0 in
+    let x : Reading = readField (b ∷ bs) answerRoom s in
+    let m : Made = made (b ∷ bs) out x (over (answerBytes (x .answer)) out) in
+    let read : ReadOn s m = record { reading = ap (λ (n : ℕ). readField (b ∷ bs) n s) (sym (length-replicate {A = ℕ} answerRoom 0)); output = refl } in
+    record { list = m ∷ more .list; readings = next read (more .readings) }
+
+pub range-is-made : RangeIsMade
+range-is-made s = (λ h. through (in-range-made h .1), λ m. subst InRange (sym (works-out (m .readings))) (worked-in-range (m .list)))
 
 pub restores : {w : List ℕ} {s t : Sheet} → ReadThrough w s t → Restores w s t
 restores end = no-more

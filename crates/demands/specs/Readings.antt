@@ -1,6 +1,7 @@
 -- SCOPE 9.1 and 9.2: readings and savings as the calls that a program makes ensure them, and the sheet worked out from a list of them.
 use Prim.Native.Nat.{ℕ, _≤_}
 use mathlib.Core.Path.{_≡_}
+use mathlib.Core.Logic.{_↔_}
 use mathlib.Core.List.{List, [], _∷_, map}
 use lib.ListN.{length, drop}
 use Rattle.sheet.specs.declared.Sheet.{Sheet}
@@ -42,6 +43,15 @@ ReadOn s m = FieldRead (m .input) (m .out) s (m .result) (m .out′)
 pub data Readings : Sheet → List Made → Sheet → Type 0 where
   none : {s : Sheet} → Readings s [] s
   next : {m : Made} {ms : List Made} {s s′ : Sheet} → ReadOn s m → Readings (m .result .sheet) ms s′ → Readings s (m ∷ ms) s′
+
+-- some list of readings makes t from s (SCOPE 9.1)
+pub record MadeFrom (s t : Sheet) : Type 0 where
+  pub list : List Made
+  pub readings : Readings s list t
+
+-- The sheets in range, for which the calls state their results, are exactly those that some list makes from a fresh one (SCOPE 9.1).
+abbrev pub RangeIsMade : Type 0
+RangeIsMade = (s : Sheet) → InRange s ↔ MadeFrom freshSheet s
 
 abbrev pub given : Made → Given
 given m = record { input = m .input; room = length (m .out) }

@@ -7,16 +7,17 @@ use mathlib.Core.Bool.{Bool, true, false}
 use mathlib.Core.List.{List}
 use mathlib.Core.Path.{_≡_, refl}
 use lib.IntN.{ℤ, pos, _+ℤ_, _*ℤ_, natAbs}
+use lib.ListN.{getD}
 use Rattle.integers.proofs.Signs.{abs-add, abs-mul, abs-negated}
 use Rattle.standard.specs.Combination.{caseCount}
 use Rattle.envelope.specs.declared.Weights.{Weights}
-use Rattle.envelope.specs.Range.{effectOf, effectMost, EffectsInRange, WeightsInRange}
+use Rattle.envelope.specs.Range.{effectOf, effectLimit, totalMost, weightMost, EffectsInRange, TotalsInRange, WeightsInRange}
 use Rattle.envelope.specs.Directions.{turned, signsBy}
 use Rattle.directions.specs.declared.Directions.{Directions}
 use Rattle.sums.specs.declared.Sides.{Sides}
 use Rattle.directions.specs.declared.FourSides.{FourSides}
-use Rattle.directions.specs.Four.{directed, DirectionsInRange, fourIn, fourWith, FourInRange, FourRoom}
-use Rattle.sums.proofs.Held.{no-sides, sides-skip, sides-join, sides-in-range, sides-room}
+use Rattle.directions.specs.Four.{directed, DirectionsInRange, DirectionsFit, fourSplit, fourIn, fourWith, FourInRange, FourRoom}
+use Rattle.sums.proofs.Held.{split-in-range, no-sides, sides-skip, sides-join, sides-in-range, sides-room}
 
 module _ (t : Bool) (p : ℕ → Bool) (d : ℕ → Directions) where
   abbrev none : Sides
@@ -73,19 +74,42 @@ turned-size false x = refl
 signs-most : (p q : Bool) (a b c : ℤ) → natAbs (signsBy p q a b c) ≤ natAbs a + (natAbs b + natAbs c)
 signs-most p q a b c = omega (arith, abs-add (turned p a) (turned q b +ℤ c), abs-add (turned q b) c, turned-size p a, turned-size q b)
 
-module _ (effects : List ℤ) (w : Weights) (r : EffectsInRange effects) (i : WeightsInRange w) (k : ℕ) where
-  way-most : (p q : Bool) → natAbs (signsBy p q (w .n *ℤ effectOf effects k 0) (w .y *ℤ effectOf effects k 1) (w .z *ℤ effectOf effects k 2)) ≤ effectMost
+-- three numbers up to m at weights in range
+module _ (numbers : List ℤ) (w : Weights) (m : ℕ) (small : (i : ℕ) → natAbs (getD numbers i (pos 0)) ≤ m) (r : WeightsInRange w) (k : ℕ) where
+  way-most : (p q : Bool) → natAbs (signsBy p q (w .n *ℤ effectOf numbers k 0) (w .y *ℤ effectOf numbers k 1) (w .z *ℤ effectOf numbers k 2)) ≤ 3 * (weightMost * m)
   way-most p q =
       omega (
         arith,
-        signs-most p q (w .n *ℤ effectOf effects k 0) (w .y *ℤ effectOf effects k 1) (w .z *ℤ effectOf effects k 2),
-        abs-mul (w .n) (effectOf effects k 0),
-        abs-mul (w .y) (effectOf effects k 1),
-        abs-mul (w .z) (effectOf effects k 2),
-        mul-le-mul (i .n) (r .range (k * 3 + 0)),
-        mul-le-mul (i .y) (r .range (k * 3 + 1)),
-        mul-le-mul (i .z) (r .range (k * 3 + 2)),
+        signs-most p q (w .n *ℤ effectOf numbers k 0) (w .y *ℤ effectOf numbers k 1) (w .z *ℤ effectOf numbers k 2),
+        abs-mul (w .n) (effectOf numbers k 0),
+        abs-mul (w .y) (effectOf numbers k 1),
+        abs-mul (w .z) (effectOf numbers k 2),
+        mul-le-mul (r .n) (small (k * 3 + 0)),
+        mul-le-mul (r .y) (small (k * 3 + 1)),
+        mul-le-mul (r .z) (small (k * 3 + 2)),
       )
 
-  pub directed-most : DirectionsInRange (directed w (effectOf effects) k)
-  directed-most = record { first = way-most false false; second = way-most true false; third = way-most false true; fourth = way-most true true }
+pub directed-most : (effects : List ℤ) (w : Weights) → EffectsInRange effects → WeightsInRange w → (k : ℕ) → DirectionsInRange (directed w (effectOf effects) k)
+directed-most effects w r i k =
+    let most = way-most effects w effectLimit (r .range) i k in
+    record { first = most false false; second = most true false; third = most false true; fourth = most true true }
+
+-- ---- the totals
+pub totals-fit : (totals : List ℤ) (w : Weights) → TotalsInRange totals → WeightsInRange w → (j : ℕ) → DirectionsFit (directed w (effectOf totals) j)
+totals-fit totals w r i j =
+    let most = way-most totals w totalMost (r .range) i j in
+    record {
+      first = omega (arith, most false false);
+      second = omega (arith, most true false);
+      third = omega (arith, most false true);
+      fourth = omega (arith, most true true);
+    }
+
+pub four-split-in-range : (d : Directions) → DirectionsFit d → FourInRange (fourSplit d)
+four-split-in-range d h =
+    record {
+      first = split-in-range (d .first) (h .first);
+      second = split-in-range (d .second) (h .second);
+      third = split-in-range (d .third) (h .third);
+      fourth = split-in-range (d .fourth) (h .fourth);
+    }

@@ -1,14 +1,14 @@
 ghost use mathlib.Core.Path.{_≡_};
 ghost use Prim.Native.Nat.{_+_, _<_, _≤_, _^_};
-ghost use lib.ListN.{length, getD};
-ghost use lib.IntN.{pos, _*ℤ_, natAbs};
+ghost use lib.ListN.{length};
+ghost use lib.IntN.{_*ℤ_, natAbs};
 ghost use Rattle.integers.specs.Sets.{has};
 ghost use Rattle.standard.specs.Combination.{caseCount};
 ghost use Rattle.standard.specs.Kinds.{kindCount};
-ghost use Rattle.envelope.specs.Range.{effectOf, effectLimit, weightMost, EffectsInRange, WeightsInRange};
+ghost use Rattle.envelope.specs.Range.{effectOf, totalMost, EffectsInRange, TotalsInRange, WeightsInRange};
 ghost use Rattle.envelope.specs.Places.{PlacesInRange};
-ghost use Rattle.sums.specs.Sums.{sidesPut, sumCount};
-ghost use Rattle.directions.specs.Four.{directionsOf, directed, fourWith, FourRoom, FourInRange, fourIn, FourOf, fluidIn};
+ghost use Rattle.sums.specs.Sums.{sidesPut, totalsPut, sumCount, totalCount};
+ghost use Rattle.directions.specs.Four.{directionsOf, directed, DirectionsFit, fourSplit, fourWith, FourRoom, FourInRange, fourIn, FourOf, fluidIn};
 use envelope::Weights;
 use standard::KINDS;
 use sums::Sides;
@@ -29,16 +29,7 @@ pub struct FourSides {
     pub fourth: Sides,
 }
 
-// A weighed effect.
-fn weighed_one(effects: &[i16], at: usize, w: i64) -> i64
-    requires { ⌜ (at < length (now effects)) × (natAbs (getD (now effects) at (pos 0)) ≤ effectLimit) × (natAbs w ≤ weightMost) ⌝ }
-    ensures { λ r. ⌜ r ≡ w *ℤ getD (now (effects .entry)) at (pos 0) ⌝ }
-{
-    let x = integers::widen(effects[at]);
-    integers::scaled(0, w, x)
-}
-
-// The four directions of a case's weighed effects: their signs are + + +, - + +, + - + and - - +.
+// The four directions of three weighed numbers: their signs are + + +, - + +, + - + and - - +.
 fn four_signs(a: i64, b: i64, c: i64) -> Directions
     requires { ⌜ natAbs a + natAbs b + natAbs c < 2 ^ 63 ⌝ }
     ensures { λ r. ⌜ r ≡ directionsOf a b c ⌝ }
@@ -54,16 +45,39 @@ fn four_signs(a: i64, b: i64, c: i64) -> Directions
     }
 }
 
-// Those of case k.
+// Those of three numbers before they are weighed.
+fn directions_of(n: i64, y: i64, z: i64, w: Weights) -> Directions
+    requires { ⌜ (natAbs n ≤ totalMost) × (natAbs y ≤ totalMost) × (natAbs z ≤ totalMost) × WeightsInRange w ⌝ }
+    ensures { λ r. ⌜ r ≡ directionsOf (w .n *ℤ n) (w .y *ℤ y) (w .z *ℤ z) ⌝ }
+{
+    let a = integers::scaled(0, w.n, n);
+    let b = integers::scaled(0, w.y, y);
+    let c = integers::scaled(0, w.z, z);
+    four_signs(a, b, c)
+}
+
+// Those of the effects of case k.
 fn case_directions(effects: &[i16], k: usize, w: Weights) -> Directions
     requires { ⌜ (k < caseCount) × EffectsInRange (now effects) × WeightsInRange w ⌝ }
     ensures { λ r. ⌜ r ≡ directed w (effectOf (now (effects .entry))) k ⌝ }
 {
     let at = k * 3;
-    let a = weighed_one(effects, at, w.n);
-    let b = weighed_one(effects, at + 1, w.y);
-    let c = weighed_one(effects, at + 2, w.z);
-    four_signs(a, b, c)
+    let n = integers::widen(effects[at]);
+    let y = integers::widen(effects[at + 1]);
+    let z = integers::widen(effects[at + 2]);
+    directions_of(n, y, z, w)
+}
+
+// Those of the totals of D, at 0, or of F, at 1.
+fn total_directions(totals: &[i64], which: usize, w: Weights) -> Directions
+    requires { ⌜ (which < totalCount) × TotalsInRange (now totals) × WeightsInRange w ⌝ }
+    ensures { λ r. ⌜ r ≡ directed w (effectOf (now (totals .entry))) which ⌝ }
+{
+    let at = which * 3;
+    let n = totals[at];
+    let y = totals[at + 1];
+    let z = totals[at + 2];
+    directions_of(n, y, z, w)
 }
 
 // One case more, in the four directions.
@@ -119,20 +133,54 @@ fn put_four(
     sums::put_sides(s3, kind, f.fourth);
 }
 
-// One pass over the cases: the sums of each kind in the four directions, for both signs of each.
+// The sides of a total in the four directions.
+fn four_split(d: Directions) -> FourSides
+    requires { ⌜ DirectionsFit d ⌝ }
+    ensures { λ r. ⌜ r ≡ fourSplit d ⌝ }
+{
+    FourSides {
+        first: sums::split(d.first),
+        second: sums::split(d.second),
+        third: sums::split(d.third),
+        fourth: sums::split(d.fourth),
+    }
+}
+
+// The totals of D and F in the four directions.
+fn put_totals(
+    s0: &mut [u64],
+    s1: &mut [u64],
+    s2: &mut [u64],
+    s3: &mut [u64],
+    totals: &[i64],
+    w: Weights,
+)
+    requires { ⌜ (length (now s0) ≡ sumCount) × (length (now s1) ≡ sumCount) × (length (now s2) ≡ sumCount) × (length (now s3) ≡ sumCount) × TotalsInRange (now totals) × WeightsInRange w ⌝ }
+    ensures { λ _. ⌜ (now (s0 .exit) ≡ totalsPut (now (s0 .entry)) (λ j. directed w (effectOf (now (totals .entry))) j .first)) × (now (s1 .exit) ≡ totalsPut (now (s1 .entry)) (λ j. directed w (effectOf (now (totals .entry))) j .second)) × (now (s2 .exit) ≡ totalsPut (now (s2 .entry)) (λ j. directed w (effectOf (now (totals .entry))) j .third)) × (now (s3 .exit) ≡ totalsPut (now (s3 .entry)) (λ j. directed w (effectOf (now (totals .entry))) j .fourth)) ⌝ }
+{
+    let dead = four_split(total_directions(totals, 0, w));
+    let fluid = four_split(total_directions(totals, 1, w));
+    put_four(s0, s1, s2, s3, sums::DEAD, dead);
+    put_four(s0, s1, s2, s3, sums::FLUID, fluid);
+}
+
+// The sums of each kind in the four directions, for both signs of each: from the totals of D and F, and from one pass over the cases
+// of the others.
 pub fn four_sums_of(
     s0: &mut [u64],
     s1: &mut [u64],
     s2: &mut [u64],
     s3: &mut [u64],
+    totals: &[i64],
     places: &[u64],
     effects: &[i16],
     w: Weights,
 )
-    requires { ⌜ (length (now s0) ≡ sumCount) × (length (now s1) ≡ sumCount) × (length (now s2) ≡ sumCount) × (length (now s3) ≡ sumCount) × PlacesInRange (now places) × EffectsInRange (now effects) × WeightsInRange w ⌝ }
-    ensures { λ _. ⌜ FourOf (now (s0 .exit)) (now (s1 .exit)) (now (s2 .exit)) (now (s3 .exit)) (now (places .entry)) (directed w (effectOf (now (effects .entry)))) kindCount ⌝ }
+    requires { ⌜ (length (now s0) ≡ sumCount) × (length (now s1) ≡ sumCount) × (length (now s2) ≡ sumCount) × (length (now s3) ≡ sumCount) × TotalsInRange (now totals) × PlacesInRange (now places) × EffectsInRange (now effects) × WeightsInRange w ⌝ }
+    ensures { λ _. ⌜ FourOf (now (s0 .exit)) (now (s1 .exit)) (now (s2 .exit)) (now (s3 .exit)) (directed w (effectOf (now (totals .entry)))) (now (places .entry)) (directed w (effectOf (now (effects .entry)))) kindCount ⌝ }
 {
-    let mut kind: usize = 1;
+    put_totals(s0, s1, s2, s3, totals, w);
+    let mut kind: usize = sums::FLUID + 1;
     while kind < KINDS {
         let f = four_sides_of(sums::acts_alone(kind), places[kind], effects, w);
         put_four(s0, s1, s2, s3, kind, f);

@@ -4,9 +4,7 @@ ghost use mathlib.Core.List.{List, [], _∷_};
 ghost use Prim.Native.Nat.{_+_, _<_};
 ghost use lib.ListN.{length};
 ghost use lib.Seq.{sets};
-ghost use Rattle.standard.specs.Combination.{caseCount};
-ghost use Rattle.envelope.specs.Range.{stationCount};
-ghost use Rattle.effects.specs.Effects.{effectCount, zeros, cleared};
+ghost use Rattle.effects.specs.Effects.{effectCount, zeros};
 use standard::CASES;
 
 pub const STATIONS: usize = 16;
@@ -18,21 +16,6 @@ pub const STATION_EFFECTS: usize = CASES * COMPONENTS;
 pub const EFFECTS: usize = STATIONS * STATION_EFFECTS;
 
 pub type Effects = [i16; EFFECTS];
-
-// Sets a case's effects to 0 at every station.
-pub fn clear_case(effects: &mut Effects, case: usize)
-    requires { ⌜ case < caseCount ⌝ }
-    ensures { λ _. ⌜ now (effects .exit) ≡ cleared (now (effects .entry)) case stationCount ⌝ }
-{
-    let mut t: usize = 0;
-    while t < STATIONS {
-        let at = t * STATION_EFFECTS + case * COMPONENTS;
-        effects[at] = 0;
-        effects[at + 1] = 0;
-        effects[at + 2] = 0;
-        t += 1;
-    }
-}
 
 // Replaces three effects.
 pub fn put_effects(effects: &mut Effects, at: usize, n: i16, y: i16, z: i16)

@@ -50,6 +50,14 @@ pub record EffectsInRange (effects : List ℤ) : Type 0 where
   pub long : length effects ≡ caseCount * componentCount
   pub range : (i : ℕ) → natAbs (getD effects i (pos 0)) ≤ effectLimit
 
+-- the totals of the cases of D and of F, three of each
+abbrev pub totalMost : ℕ
+totalMost = caseCount * effectLimit
+
+pub record TotalsInRange (totals : List ℤ) : Type 0 where
+  pub long : length totals ≡ 2 * componentCount
+  pub range : (i : ℕ) → natAbs (getD totals i (pos 0)) ≤ totalMost
+
 pub record CapacitiesInRange (p : Capacities) : Type 0 where
   pub n-least : 1 ≤ p .n
   pub n-most : p .n ≤ capacityLimit

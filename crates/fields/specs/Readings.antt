@@ -19,9 +19,9 @@ pub record FieldRead (input out : List ℕ) (s : Sheet) (r : Reading) (out′ : 
   pub reading : r ≡ readField input (length out) s
   pub output : out′ ≡ over (answerBytes (r .answer)) out
 
--- a reading on a sheet whose effects are lent, with them
-abbrev pub wholeReading : ReadRest → List ℤ → Reading
-wholeReading r effects = record { answer = r .answer; sheet = whole (r .rest) effects; consumed = r .consumed; written = r .written }
+-- a reading on a sheet whose effects and sums are lent, with them
+abbrev pub wholeReading : ReadRest → List ℤ → List ℤ → Reading
+wholeReading r effects sums = record { answer = r .answer; sheet = whole (r .rest) effects sums; consumed = r .consumed; written = r .written }
 
 -- every field of the bytes is accepted, from a sheet to a sheet (SCOPE 10.2)
 pub data ReadThrough : List ℕ → Sheet → Sheet → Type 0 where

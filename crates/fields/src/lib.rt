@@ -1,5 +1,6 @@
 // Reads one tagged field, edits the sheet and answers.
 use answers::ANSWER_ROOM;
+use dead_sums::DeadSums;
 use effects::Effects;
 use headers::Header;
 use sheet::Answer;
@@ -19,7 +20,7 @@ pub struct Reading {
     pub written: usize,
 }
 
-// A reading on a sheet whose effects are lent.
+// A reading on a sheet whose effects and sums are lent.
 pub struct ReadRest {
     pub answer: Answer,
     pub rest: Rest,
@@ -32,25 +33,32 @@ pub fn read_field(sheet: Sheet, input: &[u8], out: &mut [u8]) -> Reading
     ensures { λ r. ⌜ FieldRead (now (input .entry)) (now (out .entry)) sheet r (now (out .exit)) × ReadWithin (now (input .entry)) (now (out .entry)) r (now (out .exit)) ⌝ }
 {
     let mut effects = sheet.effects;
-    let r = read_in(sheet.rest(), &mut effects, input, out);
+    let mut sums = sheet.sums;
+    let r = read_in(sheet.rest(), &mut effects, &mut sums, input, out);
     let answer = r.answer;
     let rest = r.rest;
     Reading {
         answer,
-        sheet: rest.with_effects(effects),
+        sheet: rest.with_effects(effects, sums),
         consumed: r.consumed,
         written: r.written,
     }
 }
 
 // Refusals 1 and 2, and then the field's own.
-fn field_in(rest: Rest, effects: &mut Effects, tag: u8, body: &[u8]) -> AnsweredRest
-    requires { ⌜ InRange (whole rest (now effects)) ⌝ }
-    ensures { λ r. ⌜ wholeOf r (now (effects .exit)) ≡ fieldOf (whole rest (now (effects .entry))) tag (now (body .entry)) ⌝ }
+fn field_in(
+    rest: Rest,
+    effects: &mut Effects,
+    sums: &mut DeadSums,
+    tag: u8,
+    body: &[u8],
+) -> AnsweredRest
+    requires { ⌜ InRange (whole rest (now effects) (now sums)) ⌝ }
+    ensures { λ r. ⌜ wholeOf r (now (effects .exit)) (now (sums .exit)) ≡ fieldOf (whole rest (now (effects .entry)) (now (sums .entry))) tag (now (body .entry)) ⌝ }
 {
     let due = headers::due_header(tag, body.len());
     if due == 0 {
-        return tags::run(rest, effects, tag, body);
+        return tags::run(rest, effects, sums, tag, body);
     }
     AnsweredRest {
         answer: Answer::Refused(due),
@@ -58,10 +66,16 @@ fn field_in(rest: Rest, effects: &mut Effects, tag: u8, body: &[u8]) -> Answered
     }
 }
 
-// The same reading as `read_field`, on a sheet whose effects are lent, so that it copies none.
-pub fn read_in(rest: Rest, effects: &mut Effects, input: &[u8], out: &mut [u8]) -> ReadRest
-    requires { ⌜ InRange (whole rest (now effects)) ⌝ }
-    ensures { λ r. ⌜ FieldRead (now (input .entry)) (now (out .entry)) (whole rest (now (effects .entry))) (wholeReading r (now (effects .exit))) (now (out .exit)) × ReadWithin (now (input .entry)) (now (out .entry)) (wholeReading r (now (effects .exit))) (now (out .exit)) ⌝ }
+// The same reading as `read_field`, on a sheet whose effects and sums are lent, so that it copies none.
+pub fn read_in(
+    rest: Rest,
+    effects: &mut Effects,
+    sums: &mut DeadSums,
+    input: &[u8],
+    out: &mut [u8],
+) -> ReadRest
+    requires { ⌜ InRange (whole rest (now effects) (now sums)) ⌝ }
+    ensures { λ r. ⌜ FieldRead (now (input .entry)) (now (out .entry)) (whole rest (now (effects .entry)) (now (sums .entry))) (wholeReading r (now (effects .exit)) (now (sums .exit))) (now (out .exit)) × ReadWithin (now (input .entry)) (now (out .entry)) (wholeReading r (now (effects .exit)) (now (sums .exit))) (now (out .exit)) ⌝ }
 {
     if out.len() < ANSWER_ROOM {
         return ReadRest {
@@ -82,7 +96,7 @@ pub fn read_in(rest: Rest, effects: &mut Effects, input: &[u8], out: &mut [u8]) 
             written,
         };
     };
-    let a = field_in(rest, effects, tag, &input[3..3 + len]);
+    let a = field_in(rest, effects, sums, tag, &input[3..3 + len]);
     let answer = a.answer;
     let written = answers::put_answer(out, answer);
     let r = a.rest;

@@ -28,14 +28,14 @@ use Rattle.loading.proofs.Loop.{sheet-after, written-after, output-after}
 use Rattle.answers.specs.Answers.{answerRoom}
 
 -- the end of the loop over the fields of a call
-record Ended (input : List ℕ) (s : Sheet) (o : List ℕ) (q : Progress) (effects : List ℤ) (o′ : List ℕ) : Type 0 where
-  sheet : whole (q .rest) effects ≡ sheetAfter (fieldsOf input) s
+record Ended (input : List ℕ) (s : Sheet) (o : List ℕ) (q : Progress) (effects sums : List ℤ) (o′ : List ℕ) : Type 0 where
+  sheet : whole (q .rest) effects sums ≡ sheetAfter (fieldsOf input) s
   written : q .written ≡ length (bytesOf (answersTo (fieldsOf input) s))
   output : o′ ≡ over (bytesOf (answersTo (fieldsOf input) s)) o
 
-ended : (input : List ℕ) (s : Sheet) (o : List ℕ) (q : Progress) (effects : List ℤ) {o′ : List ℕ} → answerRoom * length (fieldsOf input) ≤ length o →
-    stateOf q effects o′ ≡ steppedAll true (starting s o) (fieldsOf input) → Ended input s o q effects o′
-ended input s o q effects h e =
+ended : (input : List ℕ) (s : Sheet) (o : List ℕ) (q : Progress) (effects sums : List ℤ) {o′ : List ℕ} → answerRoom * length (fieldsOf input) ≤ length o →
+    stateOf q effects sums o′ ≡ steppedAll true (starting s o) (fieldsOf input) → Ended input s o q effects sums o′
+ended input s o q effects sums h e =
     let fs = fieldsOf input in
     let l : length (bytesOf (answersTo fs s)) ≤ length o = omega (arith, answers-long fs s) in
     record {
@@ -66,11 +66,11 @@ module _ (state input o : List ℕ) where
       AnswerDone state input o (record { refusal = due; written = 0; saved = 0 }) o
   answer-refused {due} d n = record { result = rw (← d, ne-eqb due 0 n); written = rw (← d, ne-eqb due 0 n) }
 
-  pub answer-done : {o′ : List ℕ} (q : Progress) (effects : List ℤ) → dueAnswer state input (length o) ≡ 0 →
-      stateOf q effects o′ ≡ steppedAll true (starting (loaded state) o) (fieldsOf input) →
+  pub answer-done : {o′ : List ℕ} (q : Progress) (effects sums : List ℤ) → dueAnswer state input (length o) ≡ 0 →
+      stateOf q effects sums o′ ≡ steppedAll true (starting (loaded state) o) (fieldsOf input) →
       AnswerDone state input o (record { refusal = 0; written = q .written; saved = 0 }) o′
-  answer-done q effects d e =
-      let x = ended input (loaded state) o q effects (answer-room d) e in
+  answer-done q effects sums d e =
+      let x = ended input (loaded state) o q effects sums (answer-room d) e in
       record { result = rw (d, x .written); written = rw (d, x .output) }
 
   module _ (place : List ℕ) where
@@ -88,14 +88,14 @@ module _ (state input o : List ℕ) where
     pub run-refused : {n : ℕ} → n ≡ due → (n ≡ 0 → ⊥) → RunDone state input o place (record { refusal = n; written = 0; saved = 0 }) o place
     run-refused {n} d h = record { result = rw (← d, ne-eqb n 0 h); written = rw (← d, ne-eqb n 0 h); saved = rw (← d, ne-eqb n 0 h) }
 
-    pub run-done : {o′ place′ : List ℕ} (q : Progress) (effects : List ℤ) {s : Saved} {n : ℕ} → due ≡ 0 →
-        stateOf q effects o′ ≡ steppedAll true (starting (loaded state) o) (fieldsOf input) →
-        s ≡ savedAnswer (whole (q .rest) effects) (length place) → place′ ≡ savedOver (whole (q .rest) effects) place → n ≡ countOf s →
+    pub run-done : {o′ place′ : List ℕ} (q : Progress) (effects sums : List ℤ) {s : Saved} {n : ℕ} → due ≡ 0 →
+        stateOf q effects sums o′ ≡ steppedAll true (starting (loaded state) o) (fieldsOf input) →
+        s ≡ savedAnswer (whole (q .rest) effects sums) (length place) → place′ ≡ savedOver (whole (q .rest) effects sums) place → n ≡ countOf s →
         RunDone state input o place (record { refusal = 0; written = q .written; saved = n }) o′ place′
     unfolding savedAnswer savedOver
-    run-done q effects d e a b c =
+    run-done q effects sums d e a b c =
         let r = run-due d in
-        let x = ended input (loaded state) o q effects (answer-room (r .1)) e in
+        let x = ended input (loaded state) o q effects sums (answer-room (r .1)) e in
         let after = sheetAfter (fieldsOf input) (loaded state) in
         let l : length (savedBytes after) ≤ length place = omega (arith, saved-most after, r .0) in
         record {

@@ -1,4 +1,5 @@
 // For programs in C and Rust: lists of fields, answered on a sheet that is given as its saved bytes. No call keeps a state.
+use dead_sums::DEAD_SUMS;
 use effects::EFFECTS;
 use saving::Saved;
 ghost use mathlib.Core.Path.{_≡_};
@@ -40,12 +41,13 @@ pub extern "C" fn frames_answer(state: &[u8], input: &[u8], output: &mut [u8]) -
     ensures { λ r. ⌜ AnswerDone (now (state .entry)) (now (input .entry)) (now (output .entry)) r (now (output .exit)) ⌝ }
 {
     let mut effects = [0i16; EFFECTS];
-    let p = loading::load(&mut effects, state);
+    let mut sums = [0i64; DEAD_SUMS];
+    let p = loading::load(&mut effects, &mut sums, state);
     let short = lists::is_short(input, output.len());
     let due = refusals::first(short, 14, p.refusal);
     if due == 0 {
         let rest = p.rest;
-        let q = loading::read_all(rest, true, &mut effects, input, output);
+        let q = loading::read_all(rest, true, &mut effects, &mut sums, input, output);
         return Ran {
             refusal: 0,
             written: q.written,
@@ -65,15 +67,16 @@ pub extern "C" fn frames_run(state: &[u8], input: &[u8], output: &mut [u8], save
     ensures { λ r. ⌜ RunDone (now (state .entry)) (now (input .entry)) (now (output .entry)) (now (saved .entry)) r (now (output .exit)) (now (saved .exit)) ⌝ }
 {
     let mut effects = [0i16; EFFECTS];
-    let p = loading::load(&mut effects, state);
+    let mut sums = [0i64; DEAD_SUMS];
+    let p = loading::load(&mut effects, &mut sums, state);
     let short = lists::is_short(input, output.len());
     let due = refusals::first(short, 14, p.refusal);
     let due = refusals::first(saved.len() < PLACE_ROOM, 14, due);
     if due == 0 {
         let rest = p.rest;
-        let q = loading::read_all(rest, true, &mut effects, input, output);
+        let q = loading::read_all(rest, true, &mut effects, &mut sums, input, output);
         let after = q.rest;
-        let s = saving::save(after.with_effects(effects), saved);
+        let s = saving::save(after.with_effects(effects, sums), saved);
         return Ran {
             refusal: 0,
             written: q.written,

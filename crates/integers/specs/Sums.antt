@@ -16,6 +16,10 @@ unfoldable pub sumℤ : ℕ → (ℕ → ℤ) → ℤ
 sumℤ zero g = pos 0
 sumℤ (suc n) g = sumℤ n g +ℤ g n
 
+-- the values of the members below n, added up
+unfoldable pub sumWhere : ℕ → (ℕ → Bool) → (ℕ → ℤ) → ℤ
+sumWhere n member g = sumℤ n (λ k. cond (member k) (g k) (pos 0))
+
 -- the greatest of the values, 0 where there is none
 unfoldable pub most : ℕ → (ℕ → ℕ) → ℕ
 most zero g = 0

@@ -16,9 +16,9 @@ use Rattle.loading.specs.Loaded.{loaded, dueState}
 use Rattle.loading.specs.Loop.{State, starting, steppedAll, stateOf}
 use Rattle.loading.proofs.Loop.{sheet-after, refusal-after}
 
-pub load-is : (state : List ℕ) (p : Progress) (effects : List ℤ) (o : List ℕ) {o′ : List ℕ} →
-    stateOf p effects o′ ≡ steppedAll false (starting freshSheet o) (fieldsOf state) →
-    (whole (p .rest) effects ≡ loaded state) × (p .refusal ≡ dueState state) × InRange (whole (p .rest) effects)
-load-is state p effects o e =
-    let s : whole (p .rest) effects ≡ loaded state = ap (λ (x : State). x .sheet) e ∙ sheet-after false (fieldsOf state) (starting freshSheet o) in
+pub load-is : (state : List ℕ) (p : Progress) (effects sums : List ℤ) (o : List ℕ) {o′ : List ℕ} →
+    stateOf p effects sums o′ ≡ steppedAll false (starting freshSheet o) (fieldsOf state) →
+    (whole (p .rest) effects sums ≡ loaded state) × (p .refusal ≡ dueState state) × InRange (whole (p .rest) effects sums)
+load-is state p effects sums o e =
+    let s : whole (p .rest) effects sums ≡ loaded state = ap (λ (x : State). x .sheet) e ∙ sheet-after false (fieldsOf state) (starting freshSheet o) in
     (s, ap (λ (x : State). x .refusal) e ∙ refusal-after false (fieldsOf state) (starting freshSheet o), rw s (kept-after (fieldsOf state) freshSheet fresh-kept))

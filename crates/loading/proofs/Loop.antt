@@ -26,17 +26,17 @@ use Rattle.loading.specs.Loaded.{refusalOf, firstRefusal}
 use Rattle.loading.specs.Loop.{State, advanced, stepped, steppedAll, stateOf, Room, Reached, Stepped}
 
 -- the steps that are left lead where all of them lead
-pub record Going (keep : Bool) (input : List ℕ) (start : State) (p : Progress) (effects : List ℤ) (output : List ℕ) : Type 0 where
+pub record Going (keep : Bool) (input : List ℕ) (start : State) (p : Progress) (effects sums : List ℤ) (output : List ℕ) : Type 0 where
   pub fields : List (List ℕ)
   pub left : Left input (p .consumed) fields
-  pub leads : steppedAll keep (stateOf p effects output) fields ≡ steppedAll keep start (fieldsOf input)
-  pub in-range : InRange (whole (p .rest) effects)
+  pub leads : steppedAll keep (stateOf p effects sums output) fields ≡ steppedAll keep start (fieldsOf input)
+  pub in-range : InRange (whole (p .rest) effects sums)
   pub room : Room keep (p .written) (length fields) (length output)
   pub long : length output ≡ length (start .output)
 
-pub going-start : (keep : Bool) (input output : List ℕ) (p : Progress) (effects : List ℤ) → p .consumed ≡ 0 → InRange (whole (p .rest) effects) →
-    Room keep (p .written) (length (fieldsOf input)) (length output) → Going keep input (stateOf p effects output) p effects output
-going-start keep input output p effects e h r = record {
+pub going-start : (keep : Bool) (input output : List ℕ) (p : Progress) (effects sums : List ℤ) → p .consumed ≡ 0 → InRange (whole (p .rest) effects sums) →
+    Room keep (p .written) (length (fieldsOf input)) (length output) → Going keep input (stateOf p effects sums output) p effects sums output
+going-start keep input output p effects sums e h r = record {
   fields = fieldsOf input;
   left = rw e (left-all input);
   leads = refl;
@@ -55,9 +55,9 @@ unfolding Room
 rest-roomy true to to′ n k room e l h = let f = mul-suc answerRoom n in omega arith
 rest-roomy false to to′ n k room e l h = omega arith
 
-module _ {keep : Bool} {input : List ℕ} {start : State} {p : Progress} {effects : List ℤ} {output : List ℕ} (h : Going keep input start p effects output) where
+module _ {keep : Bool} {input : List ℕ} {start : State} {p : Progress} {effects sums : List ℤ} {output : List ℕ} (h : Going keep input start p effects sums output) where
   module _ (g : p .consumed < length input) where
-    pub going-reached : Reached p effects input output
+    pub going-reached : Reached p effects sums input output
     going-reached =
         let x = left-next (h .left) g in
         record {
@@ -66,12 +66,12 @@ module _ {keep : Bool} {input : List ℕ} {start : State} {p : Progress} {effect
           room = one-roomy keep (p .written) (length (x .rest)) (length output) (rw (x .split) at (h .room));
         }
 
-    module _ {r : Progress} {effects′ : List ℤ} {output′ : List ℕ} (s : Stepped p keep effects input output r effects′ output′) where
-      pub going-next : Going keep input start r effects′ output′
+    module _ {r : Progress} {effects′ sums′ : List ℤ} {output′ : List ℕ} (s : Stepped p keep effects sums input output r effects′ sums′ output′) where
+      pub going-next : Going keep input start r effects′ sums′ output′
       unfolding steppedAll stepped
       going-next =
           let x = left-next (h .left) g in
-          let a = readField (drop (p .consumed) input) answerRoom (whole (p .rest) effects) .answer in
+          let a = readField (drop (p .consumed) input) answerRoom (whole (p .rest) effects sums) .answer in
           record {
             fields = x .rest;
             left = rw (s .consumed) (x .later);
@@ -91,7 +91,7 @@ module _ {keep : Bool} {input : List ℕ} {start : State} {p : Progress} {effect
       pub going-within : r .consumed ≤ length input
       going-within = going-next .left .within
 
-  pub going-end : length input ≤ p .consumed → stateOf p effects output ≡ steppedAll keep start (fieldsOf input)
+  pub going-end : length input ≤ p .consumed → stateOf p effects sums output ≡ steppedAll keep start (fieldsOf input)
   unfolding steppedAll
   going-end e = rw (left-none (h .left) e) at (h .leads)
 

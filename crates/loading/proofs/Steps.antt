@@ -20,16 +20,16 @@ use Rattle.loading.specs.declared.Progress.{Progress}
 use Rattle.loading.specs.Loaded.{refusalOf}
 use Rattle.loading.specs.Loop.{advanced, stepped, Reached, Stepped}
 
-pub step-is : (p : Progress) (keep : Bool) (effects : List ℤ) (input output : List ℕ) → Reached p effects input output →
-    {r : ReadRest} {effects′ : List ℤ} {part : List ℕ} {refusal written : ℕ} →
+pub step-is : (p : Progress) (keep : Bool) (effects sums : List ℤ) (input output : List ℕ) → Reached p effects sums input output →
+    {r : ReadRest} {effects′ sums′ : List ℤ} {part : List ℕ} {refusal written : ℕ} →
     FieldRead (take (length input - p .consumed) (drop (p .consumed) input)) (take (length output - p .written) (drop (p .written) output))
-    (whole (p .rest) effects) (wholeReading r effects′) part →
+    (whole (p .rest) effects sums) (wholeReading r effects′ sums′) part →
     refusal ≡ cond (eqb (p .refusal) 0) (refusalOf (r .answer)) (p .refusal) → written ≡ advanced keep (p .written) (r .written) →
-    Stepped p keep effects input output (record { rest = r .rest; refusal = refusal; consumed = p .consumed + r .consumed; written = written }) effects′
+    Stepped p keep effects sums input output (record { rest = r .rest; refusal = refusal; consumed = p .consumed + r .consumed; written = written }) effects′ sums′
     (putMid (p .written) (length output - p .written) output part)
 unfolding stepped
-step-is p keep effects input output h {r} f d e =
-    let s = whole (p .rest) effects in
+step-is p keep effects sums input output h {r} f d e =
+    let s = whole (p .rest) effects sums in
     let field = drop (p .consumed) input in
     let x = read-at input output (p .consumed) (p .written) s (h .room) f in
     record {

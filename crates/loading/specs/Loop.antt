@@ -48,19 +48,19 @@ unfoldable pub Room : Bool → ℕ → ℕ → ℕ → Type 0
 Room true to n room = to + answerRoom * n ≤ room
 Room false to n room = to + answerRoom ≤ room
 
--- what the loop has reached, with the effects and the output that it is lent, as its state
-abbrev pub stateOf : Progress → List ℤ → List ℕ → State
-stateOf p effects output = record { sheet = whole (p .rest) effects; refusal = p .refusal; written = p .written; output = output }
+-- what the loop has reached, with the effects, the sums and the output that it is lent, as its state
+abbrev pub stateOf : Progress → List ℤ → List ℤ → List ℕ → State
+stateOf p effects sums output = record { sheet = whole (p .rest) effects sums; refusal = p .refusal; written = p .written; output = output }
 
 -- before a field is read: the sheet is in range, and its answer has room
-pub record Reached (p : Progress) (effects : List ℤ) (input output : List ℕ) : Type 0 where
-  pub in-range : InRange (whole (p .rest) effects)
+pub record Reached (p : Progress) (effects sums : List ℤ) (input output : List ℕ) : Type 0 where
+  pub in-range : InRange (whole (p .rest) effects sums)
   pub consumed : p .consumed ≤ length input
   pub room : p .written + answerRoom ≤ length output
 
 -- after it
-pub record Stepped (p : Progress) (keep : Bool) (effects : List ℤ) (input output : List ℕ) (r : Progress) (effects′ : List ℤ) (output′ : List ℕ) : Type 0 where
-  pub state : stateOf r effects′ output′ ≡ stepped keep (stateOf p effects output) (drop (p .consumed) input)
+pub record Stepped (p : Progress) (keep : Bool) (effects sums : List ℤ) (input output : List ℕ) (r : Progress) (effects′ sums′ : List ℤ) (output′ : List ℕ) : Type 0 where
+  pub state : stateOf r effects′ sums′ output′ ≡ stepped keep (stateOf p effects sums output) (drop (p .consumed) input)
   pub consumed : r .consumed ≡ p .consumed + consumedBy (drop (p .consumed) input)
-  pub in-range : InRange (whole (r .rest) effects′)
+  pub in-range : InRange (whole (r .rest) effects′ sums′)
   pub same : length output′ ≡ length output

@@ -7,10 +7,11 @@ use mathlib.Core.Path.{_≡_, refl, sym, ap, _∙_}
 use mathlib.Core.Bool.{Bool, true, false, cond}
 use mathlib.Core.Logic.{_⊎_, inl, inr}
 use lib.Dec.{T, eqb, ltb}
-use lib.IntN.{ℤ, pos, _*ℤ_}
-use Rattle.integers.specs.Sums.{when, sum, sumℤ, up, down}
+use lib.IntN.{ℤ}
+use Rattle.integers.specs.Sums.{when, sum, sumWhere, up, down}
 use Rattle.integers.proofs.Signs.{one-part}
-use Rattle.integers.proofs.Sums.{eqb-cases, ltb-cases, sum-same, sum-mono, sum-plus, sum-none, sum-swap, sum-times, sum-parts}
+use Rattle.integers.proofs.Linear.{where-parts}
+use Rattle.integers.proofs.Sums.{eqb-cases, ltb-cases, sum-same, sum-mono, sum-plus, sum-none, sum-swap, sum-times}
 use Rattle.optimum.proofs.Bound.{at-group}
 
 -- some number below n has a property, or none has
@@ -40,7 +41,7 @@ module _ (n : ℕ) (kind φ : ℕ → ℕ) (e : ℕ → ℤ) where
   AllAt a j = (k : ℕ) → k < n → kind k ≡ j → φ k ≡ a
 
   abbrev total : ℕ → ℤ
-  total j = sumℤ n (λ k. pos (when (eqb (kind k) j) 1) *ℤ e k)
+  total j = sumWhere n (λ k. eqb (kind k) j) e
 
   -- what they add, by a part of their effects
   abbrev added : ℕ → (ℕ → ℕ) → ℕ
@@ -57,7 +58,7 @@ module _ (n : ℕ) (kind φ : ℕ → ℕ) (e : ℕ → ℤ) where
       ∙ sum-times n a (λ k. when (eqb (kind k) j) 1 * part k)
 
   parts : (j : ℕ) → up (total j) + counted j (λ k. down (e k)) ≡ counted j (λ k. up (e k)) + down (total j)
-  parts j = omega (arith, sum-parts n (λ k. when (eqb (kind k) j) 1) e)
+  parts j = omega (arith, where-parts n (λ k. eqb (kind k) j) e)
 
   kind-bound : (w j : ℕ) → AllAt w j ⊎ AllAt 0 j → added j (λ k. up (e k)) ≤ w * up (total j) + added j (λ k. down (e k))
   kind-bound w j (inl all) =

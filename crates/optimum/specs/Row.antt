@@ -2,8 +2,8 @@
 use Prim.Native.Nat.{ℕ, _+_, _*_, min}
 use mathlib.Core.Bool.{Bool, true, false, cond, _&&_}
 use lib.Dec.{eqb, ltb}
-use lib.IntN.{ℤ, pos, _-ℤ_, _*ℤ_}
-use Rattle.integers.specs.Sums.{when, sum, sumℤ, most, up, down}
+use lib.IntN.{ℤ, pos, _-ℤ_}
+use Rattle.integers.specs.Sums.{when, sum, sumWhere, most, up, down}
 use Rattle.standard.specs.declared.Settings.{Settings}
 use Rattle.standard.specs.declared.Class.{Class}
 use Rattle.standard.specs.declared.Class.the-variants.{Always, Together, Subset, OneOf, Unknown}
@@ -68,7 +68,7 @@ jointOf s row kind = when (isTogether (classOf kind)) (factorOf s row kind)
 
 -- the effects of the cases of kind j, added up
 unfoldable pub totalOf : (ℕ → ℕ) → (ℕ → ℤ) → ℕ → ℤ
-totalOf kind e j = sumℤ caseCount (λ k. pos (when (eqb (kind k) j) 1) *ℤ e k)
+totalOf kind e j = sumWhere caseCount (λ k. eqb (kind k) j) e
 
 -- whether the cases of kind j, if they act all together or not at all, do: where their total is above zero
 abbrev pub actsTogether : (ℕ → ℕ) → (ℕ → ℤ) → ℕ → Bool

@@ -5,18 +5,22 @@ use native.Mathlib.Omega.{arith}
 use mathlib.Core.Bool.{Bool, true, false, not}
 use mathlib.Core.List.{List}
 use mathlib.Core.Path.{_≡_, refl, sym, ap, _∙_, subst}
-use lib.IntN.{ℤ, pos, negℤ, natAbs}
+use lib.IntN.{ℤ, pos, negℤ, _+ℤ_, _*ℤ_, natAbs}
 use Rattle.standard.specs.declared.Settings.{Settings}
 use Rattle.standard.specs.declared.Capacities.{Capacities}
 use Rattle.standard.specs.Kinds.{kindCount, fluid}
 use Rattle.standard.specs.Combination.{bit}
-use Rattle.optimum.specs.Row.{actsTogether}
+use Rattle.optimum.specs.Row.{totalOf, actsTogether}
 use Rattle.envelope.specs.declared.Best.{Best}
-use Rattle.envelope.specs.Range.{effectOf, effectMost, EffectsInRange, CapacitiesInRange}
+use Rattle.envelope.specs.declared.Weights.{Weights}
+use Rattle.envelope.specs.Range.{effectOf, componentCount, effectMost, EffectsInRange, CapacitiesInRange}
+use Rattle.envelope.specs.Places.{Places}
+use Rattle.envelope.specs.Directions.{turned, signsBy}
 use Rattle.envelope.specs.Envelope.{bestAt, bestOf, governingOf, weighed, patternOf, patternBest, higherBy, peakOf}
 use Rattle.envelope.proofs.Patterns.{pattern-directed, pattern-opposed, pattern-in-range}
-use Rattle.sums.specs.Sums.{SumsOf, Summed, fluidActs}
+use Rattle.sums.specs.Sums.{totalCount, SumsOf, Summed, AllTotalsOf, fluidActs}
 use Rattle.sums.proofs.Gathered.{summed, sums-in-range}
+use Rattle.sums.proofs.Totals.{total-adds, total-scales, total-negated}
 use Rattle.directions.specs.declared.Directions.{Directions}
 use Rattle.directions.specs.Four.{directed, DirectionsInRange, FourOf, eightBy, fluidIn}
 use Rattle.directions.proofs.FourHeld.{directed-most}
@@ -40,9 +44,10 @@ serves-both sums kind e below small h =
       fluid-acts = record { as-is = fluid-is sums kind e below h; turned = negated-fluid-is sums kind e below h };
     }
 
-pub component-served : (sums places : List ℕ) (e : ℕ → ℤ) → ((k : ℕ) → natAbs (e k) ≤ effectMost) → SumsOf sums places e kindCount → ComponentPass sums places e
-component-served sums places e small h =
-    record { serves = λ kind below held. serves-both sums kind e below small (summed sums places kind e held h) }
+pub component-served : (sums : List ℕ) (totals : ℕ → ℤ) (places : List ℕ) (e : ℕ → ℤ) → ((k : ℕ) → natAbs (e k) ≤ effectMost) → SumsOf sums totals places e kindCount →
+    ComponentPass sums totals places e
+component-served sums totals places e small h =
+    record { serves = λ kind below held true. serves-both sums kind e below small (summed sums totals places kind e held true h) }
 
 -- ---- the patterns
 module _ (p : Capacities) (effect : ℕ → ℕ → ℤ) where
@@ -84,29 +89,57 @@ module _ (s0 s1 s2 s3 : List ℕ) (kind : ℕ → ℕ) (effect : ℕ → ℕ →
   fluid-served =
       eight p effect fluidActs (λ x. actsTogether kind x fluid) s0 s1 s2 s3 (h .first .fluid-acts) (h .second .fluid-acts) (h .third .fluid-acts) (h .fourth .fluid-acts) false
 
+-- ---- the totals in a direction
+module _ (totals : ℕ → ℕ → ℤ) (kind : ℕ → ℕ) (effect : ℕ → ℕ → ℤ) (h : AllTotalsOf totals kind effect) (w : Weights) (j : ℕ) (l : j < totalCount) where
+  weighed-total : (a : ℤ) (c : ℕ) → c < componentCount → a *ℤ totals j c ≡ totalOf kind (λ k. a *ℤ effect k c) (suc j)
+  weighed-total a c b = ap (λ (x : ℤ). a *ℤ x) (h .on c b .each j l) ∙ sym (total-scales kind (suc j) a (λ k. effect k c))
+
+  turned-total : (t : Bool) (g : ℕ → ℤ) → turned t (totalOf kind g (suc j)) ≡ totalOf kind (λ k. turned t (g k)) (suc j)
+  turned-total true g = sym (total-negated kind (suc j) g)
+  turned-total false g = refl
+
+  pub direction-total : (p q : Bool) →
+      signsBy p q (w .n *ℤ totals j 0) (w .y *ℤ totals j 1) (w .z *ℤ totals j 2)
+      ≡ totalOf kind (λ k. signsBy p q (w .n *ℤ effect k 0) (w .y *ℤ effect k 1) (w .z *ℤ effect k 2)) (suc j)
+  direction-total p q =
+      let n : ℕ → ℤ = λ k. turned p (w .n *ℤ effect k 0) in
+      let y : ℕ → ℤ = λ k. turned q (w .y *ℤ effect k 1) in
+      let z : ℕ → ℤ = λ k. w .z *ℤ effect k 2 in
+      (λ i. (ap (turned p) (weighed-total (w .n) 0 (omega arith)) ∙ turned-total p (λ k. w .n *ℤ effect k 0)) i
+      +ℤ ((ap (turned q) (weighed-total (w .y) 1 (omega arith)) ∙ turned-total q (λ k. w .y *ℤ effect k 1)) i +ℤ weighed-total (w .z) 2 (omega arith) i))
+      ∙ (λ i. totalOf kind n (suc j) +ℤ sym (total-adds kind (suc j) y z) i)
+      ∙ sym (total-adds kind (suc j) n (λ k. y k +ℤ z k))
+
 -- ---- the four directions
-module _ (s0 s1 s2 s3 places : List ℕ) (effects : List ℤ) (p : Capacities) (r : EffectsInRange effects) (c : CapacitiesInRange p)
-    (h : FourOf s0 s1 s2 s3 places (directed (patternOf p 0) (effectOf effects)) kindCount) where
+module _ (s0 s1 s2 s3 : List ℕ) (totals : List ℤ) (places : List ℕ) (effects : List ℤ) (p : Capacities) (r : EffectsInRange effects) (c : CapacitiesInRange p)
+    (h : FourOf s0 s1 s2 s3 (directed (patternOf p 0) (effectOf totals)) places (directed (patternOf p 0) (effectOf effects)) kindCount) where
   abbrev ways : ℕ → Directions
   ways = directed (patternOf p 0) (effectOf effects)
+
+  abbrev total-ways : ℕ → Directions
+  total-ways = directed (patternOf p 0) (effectOf totals)
 
   small : (k : ℕ) → DirectionsInRange (ways k)
   small = directed-most effects (patternOf p 0) r (pattern-in-range p 0 c)
 
   -- a direction is a pattern
-  served : (sums : List ℕ) (i : ℕ) (way : Directions → ℤ) →
-      ((k : ℕ) → way (ways k) ≡ weighed (patternOf p i) (effectOf effects) k) → ((k : ℕ) → natAbs (way (ways k)) ≤ effectMost) →
-      SumsOf sums places (λ k. way (ways k)) kindCount → ComponentPass sums places (weighed (patternOf p i) (effectOf effects))
-  served sums i way is most held =
-      subst (ComponentPass sums places) (λ t k. is k t) (component-served sums places (λ k. way (ways k)) most held)
+  module _ (kind : ℕ → ℕ) (below : (k : ℕ) → kind k < kindCount) (placed : Places places kind) (true-totals : AllTotalsOf (effectOf totals) kind (effectOf effects)) where
+    served : (sums : List ℕ) (i : ℕ) (way : Directions → ℤ) →
+        ((k : ℕ) → way (ways k) ≡ weighed (patternOf p i) (effectOf effects) k) → ((k : ℕ) → natAbs (way (ways k)) ≤ effectMost) →
+        ((j : ℕ) → j < totalCount → way (total-ways j) ≡ totalOf kind (λ k. way (ways k)) (suc j)) →
+        SumsOf sums (λ j. way (total-ways j)) places (λ k. way (ways k)) kindCount → ServesBoth sums kind (weighed (patternOf p i) (effectOf effects))
+    served sums i way is most total held =
+        subst (ServesBoth sums kind) (λ t k. is k t)
+        (component-served sums (λ j. way (total-ways j)) places (λ k. way (ways k)) most held .serves kind below placed (record { each = total }))
 
-  pub patterns-served : PatternPass s0 s1 s2 s3 places (effectOf effects) p
-  patterns-served =
-      record {
-        serves = λ kind below held. record {
-          first = served s0 0 (λ d. d .first) (λ k. pattern-directed p (effectOf effects) k 0 false false refl refl refl) (λ k. small k .first) (h .first) .serves kind below held;
-          second = served s1 1 (λ d. d .second) (λ k. pattern-directed p (effectOf effects) k 1 true false refl refl refl) (λ k. small k .second) (h .second) .serves kind below held;
-          third = served s2 2 (λ d. d .third) (λ k. pattern-directed p (effectOf effects) k 2 false true refl refl refl) (λ k. small k .third) (h .third) .serves kind below held;
-          fourth = served s3 3 (λ d. d .fourth) (λ k. pattern-directed p (effectOf effects) k 3 true true refl refl refl) (λ k. small k .fourth) (h .fourth) .serves kind below held;
-        };
-      }
+    pub patterns-in : ServesPatterns s0 s1 s2 s3 kind (effectOf effects) p
+    patterns-in =
+        record {
+          first = served s0 0 (λ d. d .first) (λ k. pattern-directed p (effectOf effects) k 0 false false refl refl refl) (λ k. small k .first) (λ j l. direction-total (effectOf totals) kind (effectOf effects) true-totals (patternOf p 0) j l false false) (h .first);
+          second = served s1 1 (λ d. d .second) (λ k. pattern-directed p (effectOf effects) k 1 true false refl refl refl) (λ k. small k .second) (λ j l. direction-total (effectOf totals) kind (effectOf effects) true-totals (patternOf p 0) j l true false) (h .second);
+          third = served s2 2 (λ d. d .third) (λ k. pattern-directed p (effectOf effects) k 2 false true refl refl refl) (λ k. small k .third) (λ j l. direction-total (effectOf totals) kind (effectOf effects) true-totals (patternOf p 0) j l false true) (h .third);
+          fourth = served s3 3 (λ d. d .fourth) (λ k. pattern-directed p (effectOf effects) k 3 true true refl refl refl) (λ k. small k .fourth) (λ j l. direction-total (effectOf totals) kind (effectOf effects) true-totals (patternOf p 0) j l true true) (h .fourth);
+        }
+
+  pub patterns-served : PatternPass s0 s1 s2 s3 (effectOf totals) places (effectOf effects) p
+  patterns-served = record { serves = patterns-in }

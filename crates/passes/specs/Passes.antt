@@ -9,7 +9,7 @@ use Rattle.standard.specs.Kinds.{kindCount, fluid}
 use Rattle.optimum.specs.Row.{actsTogether}
 use Rattle.envelope.specs.Envelope.{governingOf, weighed, patternOf}
 use Rattle.envelope.specs.Places.{Places}
-use Rattle.sums.specs.Sums.{fluidActs}
+use Rattle.sums.specs.Sums.{TotalsOf, AllTotalsOf, fluidActs}
 use Rattle.governing.specs.Ways.{towardOf, Ready}
 
 -- what is read off sums holds of the effects, at 0 over 1, and of the effects with their signs turned, at 1 over 0
@@ -31,9 +31,10 @@ pub record ServesPatterns (s0 s1 s2 s3 : List ℕ) (kind : ℕ → ℕ) (effect 
   pub third : ServesBoth s2 kind (weighed (patternOf p 2) effect)
   pub fourth : ServesBoth s3 kind (weighed (patternOf p 3) effect)
 
--- either of a pass that is given the cases as sets, whatever kinds the sets are of
-pub record ComponentPass (sums places : List ℕ) (e : ℕ → ℤ) : Type 0 where
-  pub serves : (kind : ℕ → ℕ) → ((k : ℕ) → kind k < kindCount) → Places places kind → ServesBoth sums kind e
+-- Either of a pass that is given the totals of D and F and the cases as sets: for whatever kinds of the cases the sets are, and the totals
+-- are those.
+pub record ComponentPass (sums : List ℕ) (totals : ℕ → ℤ) (places : List ℕ) (e : ℕ → ℤ) : Type 0 where
+  pub serves : (kind : ℕ → ℕ) → ((k : ℕ) → kind k < kindCount) → Places places kind → TotalsOf totals kind e → ServesBoth sums kind e
 
-pub record PatternPass (s0 s1 s2 s3 places : List ℕ) (effect : ℕ → ℕ → ℤ) (p : Capacities) : Type 0 where
-  pub serves : (kind : ℕ → ℕ) → ((k : ℕ) → kind k < kindCount) → Places places kind → ServesPatterns s0 s1 s2 s3 kind effect p
+pub record PatternPass (s0 s1 s2 s3 : List ℕ) (totals : ℕ → ℕ → ℤ) (places : List ℕ) (effect : ℕ → ℕ → ℤ) (p : Capacities) : Type 0 where
+  pub serves : (kind : ℕ → ℕ) → ((k : ℕ) → kind k < kindCount) → Places places kind → AllTotalsOf totals kind effect → ServesPatterns s0 s1 s2 s3 kind effect p

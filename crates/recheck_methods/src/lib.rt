@@ -1,5 +1,5 @@
 // The library's calls on a sheet by value: each field's method and saving, compared with what the reader answered and with the
-// second program's saved form.
+// second program's saved form and sums.
 
 ghost use Prim.Native.Nat.{_<_};
 ghost use lib.ListN.{length};
@@ -12,6 +12,8 @@ use recheck_bytes::index_at;
 use recheck_bytes::number_at;
 use recheck_bytes::pair_at;
 use recheck_bytes::same_at;
+use recheck_sums::SUMS;
+use recheck_sums::sums_are;
 use saving::Saved;
 use sheet::Answer;
 use sheet::Answered;
@@ -38,7 +40,7 @@ fn refused_short(sheet: Sheet, out: &mut [u8]) -> bool {
 }
 
 // Whether the sheet is saved as these bytes, and an output of a byte less is refused.
-pub fn saved_agrees(sheet: Sheet, own: &[u8]) -> bool
+fn saved_agrees(sheet: Sheet, own: &[u8]) -> bool
     requires { ⌜ length (now own) < 5968 ⌝ }
 {
     let n = own.len();
@@ -51,6 +53,14 @@ pub fn saved_agrees(sheet: Sheet, own: &[u8]) -> bool
     let mut out = [UNWRITTEN; 5969];
     let s = saving::save(sheet, &mut out);
     refused & is_written(s, n) & same_at(&out, 0, own) & filled_from(&out, n, UNWRITTEN)
+}
+
+// Whether the sheet is saved as these bytes and holds these sums.
+pub fn sheet_agrees(sheet: Sheet, own: &[u8], due: &[u64; SUMS]) -> bool
+    requires { ⌜ length (now own) < 5968 ⌝ }
+{
+    let sums = sheet.sums;
+    saved_agrees(sheet, own) & sums_are(due, &sums)
 }
 
 // The method of a field whose length is its tag's.
@@ -146,9 +156,15 @@ fn answer_is(a: Answer, answer: &[u8]) -> bool {
     }
 }
 
-// Whether the field's method answers as the reader did and leaves the sheet whose saved form is given. A field whose length is
-// not its tag's has no method.
-pub fn method_agrees(sheet: Sheet, field: &[u8], answer: &[u8], own: &[u8]) -> bool
+// Whether the field's method answers as the reader did and leaves the sheet whose saved form and sums are given. A field whose
+// length is not its tag's has no method.
+pub fn method_agrees(
+    sheet: Sheet,
+    field: &[u8],
+    answer: &[u8],
+    own: &[u8],
+    due: &[u64; SUMS],
+) -> bool
     requires { ⌜ InRange sheet ⌝ }
     requires { ⌜ length (now own) < 5968 ⌝ }
 {
@@ -158,5 +174,5 @@ pub fn method_agrees(sheet: Sheet, field: &[u8], answer: &[u8], own: &[u8]) -> b
     let r = by_method(sheet, field);
     let a = r.answer;
     let after = r.sheet;
-    answer_is(a, answer) & saved_agrees(after, own)
+    answer_is(a, answer) & sheet_agrees(after, own, due)
 }

@@ -1,13 +1,13 @@
 // Runs the library's reader over the stored fields on standard input, has each answer checked by the second checker (crate
-// recheck_answers), the library's other calls compared with it and its extremes with those of the sheet with signs turned, and
-// writes a summary.
+// recheck_answers), the library's other calls compared with it, its extremes with those of the sheet with signs turned and the sums
+// that its sheet holds with those of the working sheet, and writes a summary.
 use recheck_answers::check_answer;
 use recheck_answers::sheet_after;
 use recheck_bytes::UNWRITTEN;
 use recheck_bytes::filled_from;
 use recheck_bytes::same_at;
 use recheck_methods::method_agrees;
-use recheck_methods::saved_agrees;
+use recheck_methods::sheet_agrees;
 use recheck_pairs::has_extremes;
 use recheck_pairs::pair_agrees;
 use recheck_pairs::turned;
@@ -16,6 +16,10 @@ use recheck_readings::read_short;
 use recheck_readings::read_whole;
 use recheck_saving::saved_form;
 use recheck_sheet::WorkingSheet;
+use recheck_sums::SUMS;
+use recheck_sums::has_sums;
+use recheck_sums::sums_agree;
+use recheck_sums::sums_of;
 use recheck_tally::Tally;
 use recheck_tally::answers_buffer;
 use recheck_tally::input_buffer;
@@ -72,7 +76,8 @@ fn run_agrees(state: &[u8], field: &[u8], answer: &[u8], after: &[u8]) -> bool
     ran & holds(&out, answer) & holds(&saved, after)
 }
 
-// Saving, the methods by value and the lists of one field, given the second checker's saved forms before and after the field.
+// Saving, the sums, the methods by value and the lists of one field, given the second checker's saved forms before and after the
+// field and its sums after it.
 fn forms_agree(
     sheet: Sheet,
     next: Sheet,
@@ -80,15 +85,16 @@ fn forms_agree(
     answer: &[u8],
     old: &[u8],
     new: &[u8],
+    due: &[u64; SUMS],
 ) -> bool
     requires { ⌜ InRange sheet ⌝ }
     requires { ⌜ length (now answer) < 65 ⌝ }
     requires { ⌜ length (now new) < 5968 ⌝ }
 {
-    let saved = saved_agrees(next, new);
-    let methods = method_agrees(sheet, field, answer, new);
+    let held = sheet_agrees(next, new, due);
+    let methods = method_agrees(sheet, field, answer, new, due);
     let lists = answer_agrees(old, field, answer) & run_agrees(old, field, answer, new);
-    saved & methods & lists
+    held & methods & lists
 }
 
 // Whether the library's other calls agree with the reader.
@@ -99,6 +105,7 @@ fn calls_agree(
     next: Sheet,
     field: &[u8],
     answer: &[u8],
+    due: &[u64; SUMS],
 ) -> bool
     requires { ⌜ InRange sheet ⌝ }
     requires { ⌜ length (now answer) < 65 ⌝ }
@@ -109,7 +116,7 @@ fn calls_agree(
     let own = new.bytes;
     let n = old.count;
     let m = new.count;
-    forms_agree(sheet, next, field, answer, &state[0..n], &own[0..m])
+    forms_agree(sheet, next, field, answer, &state[0..n], &own[0..m], due)
 }
 
 // The law of the pair: asked of the sheet with the sign of every effect turned, the library gives each extreme as minus the other
@@ -155,17 +162,19 @@ fn checked(
     let t = run.tally;
     let j = check_answer(working, field, answer);
     let after = sheet_after(working, field);
-    let calls = calls_agree(working, after, sheet, next, field, answer);
+    let due = sums_of(after);
+    let calls = calls_agree(working, after, sheet, next, field, answer, &due);
     let listed = list_agrees(list, run.listed, answer);
     let pair = pair_holds(working, field, answer);
     let ok = j.ok & calls & listed & pair & clean;
     let paired = has_extremes(field, answer);
+    let summed = has_sums(&due);
     Run {
         sheet: next,
         working: after,
         start: end,
         listed: wrapping_add_usize(run.listed, answer.len()),
-        tally: with_reading(t, ok, j.looked, j.skipped, paired, j.refused),
+        tally: with_reading(t, ok, j.looked, j.skipped, paired, summed, j.refused),
     }
 }
 
@@ -202,7 +211,8 @@ fn read_and_check(run: Run, input: &[u8], list: &[u8]) -> Run
     )
 }
 
-// The reading with the short output. The sheet that comes back is used from here on, so that a change to it is seen.
+// The reading with the short output. The sheet that comes back is used from here on, so that a change to it is seen; its sums are
+// those of the sheet as it was.
 fn try_short(run: Run, input: &[u8]) -> Run
     requires { ⌜ Place (run .sheet) (run .start) (now input) ⌝ }
     ensures { λ r. ⌜ Place (r .sheet) (r .start) (now (input .entry)) ⌝ }
@@ -213,12 +223,14 @@ fn try_short(run: Run, input: &[u8]) -> Run
     let next = r.sheet;
     let t = run.tally;
     let working = run.working;
+    let sums = next.sums;
+    let held = sums_agree(working, &sums);
     Run {
         sheet: next,
         working,
         start,
         listed: run.listed,
-        tally: with_short(t, r.clean),
+        tally: with_short(t, r.clean & held),
     }
 }
 
@@ -246,6 +258,7 @@ fn first_run() -> Run
         looks: 0,
         large: 0,
         pairs: 0,
+        sums: 0,
         refused: 0,
         short: 0,
         differences: 0,

@@ -4,13 +4,14 @@ ghost use lib.ListN.{length};
 use std::num::wrapping_add_u64;
 
 // Counts for the summary: readings, answered looks (tags 06 and 07) that were enumerated, those with too many load
-// cases for it, pairs of extremes compared with those of the sheet with signs turned, refusals due, refusals 14, differences,
-// and the number of the first reading that differs (0: none).
+// cases for it, pairs of extremes compared with those of the sheet with signs turned, readings that left a sheet with a sum
+// other than 0, refusals due, refusals 14, differences, and the number of the first reading that differs (0: none).
 pub struct Tally {
     pub readings: u64,
     pub looks: u64,
     pub large: u64,
     pub pairs: u64,
+    pub sums: u64,
     pub refused: u64,
     pub short: u64,
     pub differences: u64,
@@ -39,13 +40,15 @@ pub fn with_short(t: Tally, ok: bool) -> Tally {
     compared(u, ok, wrapping_add_u64(t.readings, 1))
 }
 
-// The tally after a reading: whether it was right, a look, a look too large to enumerate, a pair of extremes, a refusal.
+// The tally after a reading: whether it was right, a look, a look too large to enumerate, a pair of extremes, one that left a
+// sheet with a sum other than 0, a refusal.
 pub fn with_reading(
     t: Tally,
     ok: bool,
     looked: bool,
     skipped: bool,
     paired: bool,
+    summed: bool,
     refused: bool,
 ) -> Tally {
     let number = wrapping_add_u64(t.readings, 1);
@@ -54,6 +57,7 @@ pub fn with_reading(
     u.looks = counted(t.looks, looked & !skipped);
     u.large = counted(t.large, skipped);
     u.pairs = counted(t.pairs, paired);
+    u.sums = counted(t.sums, summed);
     u.refused = counted(t.refused, refused);
     compared(u, ok, number)
 }
@@ -79,6 +83,7 @@ pub fn summary(t: Tally) {
     put_count(t.looks, b" looks enumerated, ");
     put_count(t.large, b" looks too large, ");
     put_count(t.pairs, b" pairs of extremes with signs turned, ");
+    put_count(t.sums, b" sheets with a sum other than 0, ");
     put_count(t.refused, b" refusals, ");
     put_count(t.short, b" short outputs refused, ");
     put_count(t.differences, b" differences\n");

@@ -24,7 +24,7 @@ use Rattle.sheet.specs.Sheet.{kindAt, effectAt, capacityAt, fresh, withKind, wi
 use Rattle.refusals.specs.Refusals.{dueSettings, dueFillAt, dueEffectsAt, dueCapacities, dueSwitch, dueStraining}
 use Rattle.sheet.specs.Edits.{dueFill, dueEffects, dueFactor, unlessRefused}
 use Rattle.sheet.specs.Range.{InRange}
-use Rattle.sheet.proofs.Access.{Long, long, fresh-long, kind-long, effects-long, capacities-long, kind-filled, kind-other, effect-cleared, effect-kept, kind-leaves-capacity, kind-leaves-settings, effect-replaced, effect-other, effects-leave-kind, effects-leave-capacity, effects-leave-settings, capacity-replaced, capacity-other, capacities-leave-kind, capacities-leave-effect, capacities-leave-settings, fresh-settings, fresh-kind, fresh-effect, fresh-capacity, same-sheet}
+use Rattle.sheet.proofs.Access.{WellFormed, well-formed, fresh-formed, kind-formed, effects-formed, capacities-formed, kind-filled, kind-other, effect-cleared, effect-kept, kind-leaves-capacity, kind-leaves-settings, effect-replaced, effect-other, effects-leave-kind, effects-leave-capacity, effects-leave-settings, capacity-replaced, capacity-other, capacities-leave-kind, capacities-leave-effect, capacities-leave-settings, fresh-settings, fresh-kind, fresh-effect, fresh-capacity, same-sheet}
 use Rattle.sheet.proofs.Refusals.{tried-none}
 use Rattle.sheet.specs.Looks.{edited}
 use Rattle.tags.specs.Run.{runOf}
@@ -136,7 +136,7 @@ pub record Settled (n : ℕ) (s p : Sheet) : Type 0 where
 -- p has the settings of s, its first a kinds, its effects at the first e stations, counted case by case, and its capacities at
 -- the first c stations
 pub record Partly (s : Sheet) (a e c : ℕ) (p : Sheet) : Type 0 where
-  pub lengths : Long p
+  pub formed : WellFormed p
   pub settings : p .settings ≡ s .settings
   pub kinds : (k : ℕ) → k < 32 → kindAt p k ≡ below a k (kindAt s k) 0
   pub effects : (k t j : ℕ) → k < 32 → t < 16 → j < 3 → effectAt p k t j ≡ below e (k * 16 + t) (effectAt s k t j) (pos 0)
@@ -144,7 +144,7 @@ pub record Partly (s : Sheet) (a e c : ℕ) (p : Sheet) : Type 0 where
 
 pub none-there : (s : Sheet) → Partly s 0 0 0 (fresh (s .settings))
 none-there s = record {
-  lengths = fresh-long (s .settings);
+  formed = fresh-formed (s .settings);
   settings = fresh-settings (s .settings);
   kinds = λ k _. fresh-kind (s .settings) k ∙ sym (not-below 0 k _ _ zero-le);
   effects = λ k t j _ _ _. fresh-effect (s .settings) k t j ∙ sym (not-below 0 (k * 16 + t) _ _ zero-le);
@@ -152,7 +152,7 @@ none-there s = record {
 }
 
 pub all-there : (s p : Sheet) → InRange s → Partly s 32 512 16 p → p ≡ s
-all-there s p h r = same-sheet p s (r .lengths) (long h) (r .settings)
+all-there s p h r = same-sheet p s (r .formed) (well-formed h) (r .settings)
     (λ k g. r .kinds k g ∙ is-below 32 k _ _ g)
     (λ k t j g f b. let i : k * 16 + t < 512 = omega arith in r .effects k t j g f b ∙ is-below 512 (k * 16 + t) _ _ i)
     (λ t j f b. r .capacities t j f b ∙ is-below 16 t _ _ f)
@@ -163,7 +163,7 @@ pub nothing-more : (s : Sheet) {a e c : ℕ} (a′ e′ c′ : ℕ) {p : Sheet} 
     ((k t j : ℕ) → k < 32 → t < 16 → j < 3 → e ≤ k * 16 + t → k * 16 + t < e′ → effectAt s k t j ≡ pos 0) →
     ((t j : ℕ) → j < 3 → c ≤ t → t < c′ → capacityAt s t j ≡ 0) → Partly s a e c p → Partly s a′ e′ c′ p
 nothing-more s {a} {e} {c} a′ e′ c′ ha he hc ka ke kc r = record {
-  lengths = r .lengths;
+  formed = r .formed;
   settings = r .settings;
   kinds = λ k g. r .kinds k g ∙ further a a′ k _ _ ha (ka k);
   effects = λ k t j g f b. r .effects k t j g f b ∙ further e e′ (k * 16 + t) _ _ he (ke k t j g f b);
@@ -174,13 +174,13 @@ nothing-more s {a} {e} {c} a′ e′ c′ ha he hc ka ke kc r = record {
 module _ (s : Sheet) {p : Sheet} where
   pub kind-there : (k : ℕ) → k < 32 → Partly s k (k * 16) 0 p → Partly s (suc k) (k * 16) 0 (withKind p k (kindAt s k))
   kind-there k g r = let v = kindAt s k in record {
-    lengths = kind-long p k v (r .lengths);
+    formed = kind-formed p k v (r .formed);
     settings = kind-leaves-settings p k v ∙ r .settings;
-    kinds = λ q a. one-more k q 0 (r .kinds q a) (λ e. rw e (kind-filled p k v (r .lengths) g)) (kind-other p k v q);
+    kinds = λ q a. one-more k q 0 (r .kinds q a) (λ e. rw e (kind-filled p k v (r .formed) g)) (kind-other p k v q);
     effects = λ q t j a b c. ⊎-elim
         (λ (e : q ≡ k).
         let f : k * 16 ≤ q * 16 + t = omega arith in
-        rw (not-below (k * 16) (q * 16 + t) (effectAt s q t j) (pos 0) f, e) (effect-cleared p k v t j (r .lengths) g b c))
+        rw (not-below (k * 16) (q * 16 + t) (effectAt s q t j) (pos 0) f, e) (effect-cleared p k v t j (r .formed) g b c))
         (λ (ne : q ≡ k → ⊥). effect-kept p k v q t j g a c ne ∙ r .effects q t j a b c)
         (eq-or-ne q k);
     capacities = λ t j b c. kind-leaves-capacity p k v t j ∙ r .capacities t j b c;
@@ -193,14 +193,14 @@ module _ (s : Sheet) {p : Sheet} where
       let y = effectAt s k t 1 in
       let z = effectAt s k t 2 in
       record {
-        lengths = effects-long p k t x y z (r .lengths);
+        formed = effects-formed p k t x y z (r .formed);
         settings = effects-leave-settings p k t x y z ∙ r .settings;
         kinds = λ q b. effects-leave-kind p k t x y z q ∙ r .kinds q b;
         effects = λ q u j b c d. one-more (k * 16 + t) (q * 16 + u) (pos 0) (r .effects q u j b c d)
             (λ e.
             let eq : q ≡ k = omega arith in
             let eu : u ≡ t = omega arith in
-            rw (eq, eu) (effect-replaced p k t x y z j (r .lengths) g f d ∙ triple-at (effectAt s k t) (pos 0) j d))
+            rw (eq, eu) (effect-replaced p k t x y z j (r .formed) g f d ∙ triple-at (effectAt s k t) (pos 0) j d))
             (λ ne. effect-other p k t x y z q u j g b d (λ e. ne (omega arith)));
         capacities = λ u j c d. effects-leave-capacity p k t x y z u j ∙ r .capacities u j c d;
       }
@@ -212,11 +212,11 @@ module _ (s : Sheet) {p : Sheet} where
       let y = capacityAt s t 1 in
       let z = capacityAt s t 2 in
       record {
-        lengths = capacities-long p t x y z (r .lengths);
+        formed = capacities-formed p t x y z (r .formed);
         settings = capacities-leave-settings p t x y z ∙ r .settings;
         kinds = λ q b. capacities-leave-kind p t x y z q ∙ r .kinds q b;
         effects = λ q u j b c d. capacities-leave-effect p t x y z q u j ∙ r .effects q u j b c d;
         capacities = λ u j c d. one-more t u 0 (r .capacities u j c d)
-            (λ i. rw i (capacity-replaced p t x y z j (r .lengths) f d ∙ triple-at (capacityAt s t) 0 j d))
+            (λ i. rw i (capacity-replaced p t x y z j (r .formed) f d ∙ triple-at (capacityAt s t) 0 j d))
             (capacity-other p t x y z u j d);
       }

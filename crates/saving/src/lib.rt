@@ -4,6 +4,8 @@ use sheet::Rest;
 use sheet::Sheet;
 ghost use mathlib.Core.Path.{_≡_};
 ghost use Prim.Native.Nat.{_≤_};
+ghost use mathlib.Core.List.{List};
+ghost use lib.IntN.{ℤ};
 ghost use lib.ListN.{length};
 ghost use Rattle.wire.specs.Bytes.{Put};
 ghost use Rattle.sheet.specs.Parts.{whole};
@@ -21,7 +23,7 @@ pub enum Saved {
 
 fn put_all(rest: Rest, effects: &Effects, out: &mut [u8]) -> usize
     requires { ⌜ savedMost ≤ length (now out) ⌝ }
-    ensures { λ r. ⌜ Put (now (out .entry)) 0 (savedBytes (whole rest (now (effects .entry)))) r (now (out .exit)) ⌝ }
+    ensures { λ r. ⌜ ((sums : List ℤ) → Put (now (out .entry)) 0 (savedBytes (whole rest (now (effects .entry)) sums)) r (now (out .exit))) ⌝ }
 {
     let s = rest.settings;
     let kinds = rest.kinds;
@@ -31,9 +33,9 @@ fn put_all(rest: Rest, effects: &Effects, out: &mut [u8]) -> usize
     saved_fields::put_capacities(&capacities, out, stations)
 }
 
-// Saves a sheet over the front of the output, or refuses with 14 and writes nothing. The effects are lent.
+// Saves a sheet over the front of the output, or refuses with 14 and writes nothing. The effects are lent; the sums aren't saved.
 pub fn save_in(rest: Rest, effects: &Effects, out: &mut [u8]) -> Saved
-    ensures { λ r. ⌜ (r ≡ savedAnswer (whole rest (now (effects .entry))) (length (now (out .entry)))) × (now (out .exit) ≡ savedOver (whole rest (now (effects .entry))) (now (out .entry))) ⌝ }
+    ensures { λ r. ⌜ ((sums : List ℤ) → (r ≡ savedAnswer (whole rest (now (effects .entry)) sums) (length (now (out .entry)))) × (now (out .exit) ≡ savedOver (whole rest (now (effects .entry)) sums) (now (out .entry)))) ⌝ }
 {
     let mut buffer = [0u8; SAVED_MOST];
     let n = put_all(rest, effects, &mut buffer);

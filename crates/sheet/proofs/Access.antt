@@ -1,93 +1,72 @@
 -- What an accessor gives after each edit, at what was edited and elsewhere; and sheets that look the same are the same.
 -- Assumes nothing.
-use Prim.Native.Nat.{ℕ, zero, suc, _+_, _*_, _/_, _%_, _≤_, _<_}
+use Prim.Native.Nat.{ℕ, _+_, _*_, _/_, _%_, _≤_, _<_}
 use mathlib.Core.Path.{_≡_, refl, sym, _∙_}
-use mathlib.Core.List.{List, [], _∷_}
-use mathlib.Core.Logic.{⊎-elim}
+use mathlib.Core.List.{[], _∷_}
 use native.Mathlib.Omega.{arith}
 use lib.ListN.{length, getD, length-set, length-replicate}
-use lib.Seq.{sets, length-sets, ext-getD, getD-set-same, getD-set-other}
+use lib.Seq.{length-sets, ext-getD, getD-set-same, getD-set-other}
 use lib.IntN.{ℤ, pos}
 use Rattle.standard.specs.declared.Settings.{Settings}
 use Rattle.standard.specs.Combination.{caseCount}
 use Rattle.envelope.specs.Range.{stationCount, componentCount}
-use Rattle.wire.proofs.Cases.{lt-or-ge, eq-or-ne}
-use Rattle.wire.proofs.Stores.{sets-keep, sets-below, sets-above, sets-at, replicate-all}
+use Rattle.wire.proofs.Stores.{sets-at, replicate-all}
 use Rattle.sheet.specs.declared.Sheet.{Sheet}
 use Rattle.sheet.specs.Sheet.{kindAt, effectAt, capacityCount, capacityAt, fresh, withKind, withEffects, withCapacities}
-use Rattle.effects.specs.Effects.{effectCount, stationLength, effectIn, place, zeros, cleared}
+use Rattle.effects.specs.Effects.{effectCount, stationLength, place, zeros}
+use Rattle.effects.proofs.Stored.{triple-other, effects-at, effects-other, length-cleared, cleared-below, cleared-other}
+use Rattle.dead_sums.specs.DeadSums.{sumsOf}
+use Rattle.dead_sums.proofs.Sums.{none-summed}
 use Rattle.sheet.specs.Range.{InRange}
 
--- ---- lengths
-pub record Long (s : Sheet) : Type 0 where
+-- ---- the lengths of its lists, and its sums
+pub record WellFormed (s : Sheet) : Type 0 where
   pub kinds : length (s .kinds) ≡ caseCount
   pub effects : length (s .effects) ≡ effectCount
   pub capacities : length (s .capacities) ≡ capacityCount
+  pub sums : s .sums ≡ sumsOf (s .kinds) (s .effects)
 
-pub long : {s : Sheet} → InRange s → Long s
-long h = record { kinds = h .kinds-long; effects = h .effects-long; capacities = h .capacities-long }
+pub well-formed : {s : Sheet} → InRange s → WellFormed s
+well-formed h = record { kinds = h .kinds-long; effects = h .effects-long; capacities = h .capacities-long; sums = h .sums-true }
 
-length-cleared : (l : List ℤ) (k n : ℕ) → length (cleared l k n) ≡ length l
-unfolding cleared
-length-cleared l k zero = refl
-length-cleared l k (suc n) = length-sets (cleared l k n) (place k n) (pos 0 ∷ pos 0 ∷ pos 0 ∷ []) ∙ length-cleared l k n
-
-pub fresh-long : (settings : Settings) → Long (fresh settings)
+pub fresh-formed : (settings : Settings) → WellFormed (fresh settings)
 unfolding fresh zeros
-fresh-long settings = record {
+fresh-formed settings = record {
   kinds = length-replicate {A = ℕ} caseCount 0;
   effects = length-replicate effectCount (pos 0);
   capacities = length-replicate {A = ℕ} capacityCount 0;
+  sums = none-summed (zeros effectCount);
 }
 
-pub kind-long : (s : Sheet) (k v : ℕ) → Long s → Long (withKind s k v)
+pub kind-formed : (s : Sheet) (k v : ℕ) → WellFormed s → WellFormed (withKind s k v)
 unfolding withKind
-kind-long s k v h = record {
+kind-formed s k v h = record {
   kinds = length-set (s .kinds) k v ∙ h .kinds;
   effects = length-cleared (s .effects) k stationCount ∙ h .effects;
   capacities = h .capacities;
+  sums = refl;
 }
 
-pub effects-long : (s : Sheet) (k t : ℕ) (n y z : ℤ) → Long s → Long (withEffects s k t n y z)
+pub effects-formed : (s : Sheet) (k t : ℕ) (n y z : ℤ) → WellFormed s → WellFormed (withEffects s k t n y z)
 unfolding withEffects
-effects-long s k t n y z h = record {
+effects-formed s k t n y z h = record {
   kinds = h .kinds;
   effects = length-sets (s .effects) (place k t) (n ∷ y ∷ z ∷ []) ∙ h .effects;
   capacities = h .capacities;
+  sums = refl;
 }
 
-pub capacities-long : (s : Sheet) (t n y z : ℕ) → Long s → Long (withCapacities s t n y z)
+pub capacities-formed : (s : Sheet) (t n y z : ℕ) → WellFormed s → WellFormed (withCapacities s t n y z)
 unfolding withCapacities
-capacities-long s t n y z h = record {
+capacities-formed s t n y z h = record {
   kinds = h .kinds;
   effects = h .effects;
   capacities = length-sets (s .capacities) (t * 3) (n ∷ y ∷ z ∷ []) ∙ h .capacities;
+  sums = h .sums;
 }
 
--- ---- triples of effects or capacities
-
--- A triple stored at i leaves what is read of another triple, at m: both stand at multiples of three.
-triple-other : {A : Type 0} (d : A) (l : List A) (x y z : A) (i m a b j : ℕ) → i ≡ a * 3 → m ≡ b * 3 → (b ≡ a → ⊥) → j < componentCount →
-    getD (sets l i (x ∷ y ∷ z ∷ [])) (m + j) d ≡ getD l (m + j) d
-triple-other d l x y z i m a b j p q ne h =
-    ⊎-elim
-    (λ (u : m + j < i). sets-below d (x ∷ y ∷ z ∷ []) l i (m + j) u)
-    (λ (u : i ≤ m + j).
-    let g : i + 3 ≤ m + j = ⊎-elim
-    (λ (w : m + j < i + 3). absurd (ne (omega arith)))
-    (λ (w : i + 3 ≤ m + j). w)
-    (lt-or-ge (m + j) (i + 3)) in
-    sets-above d (x ∷ y ∷ z ∷ []) l i (m + j) g)
-    (lt-or-ge (m + j) i)
-
-effects-other : (l : List ℤ) (k t : ℕ) (n y z : ℤ) (k′ t′ j : ℕ) → k < caseCount → k′ < caseCount → ((k′ ≡ k) × (t′ ≡ t) → ⊥) → j < componentCount →
-    effectIn (sets l (place k t) (n ∷ y ∷ z ∷ [])) k′ t′ j ≡ effectIn l k′ t′ j
-effects-other l k t n y z k′ t′ j a b ne h =
-    triple-other (pos 0) l n y z (place k t) (place k′ t′) (t * caseCount + k) (t′ * caseCount + k′) j (omega arith) (omega arith)
-    (λ e. ne (omega arith, omega arith)) h
-
 -- ---- a case that is filled or emptied
-pub kind-filled : (s : Sheet) (k v : ℕ) → Long s → k < caseCount → kindAt (withKind s k v) k ≡ v
+pub kind-filled : (s : Sheet) (k v : ℕ) → WellFormed s → k < caseCount → kindAt (withKind s k v) k ≡ v
 unfolding withKind
 kind-filled s k v h a =
     let g : k < length (s .kinds) = rw (h .kinds) a in
@@ -97,30 +76,7 @@ pub kind-other : (s : Sheet) (k v k′ : ℕ) → (k′ ≡ k → ⊥) → kindA
 unfolding withKind
 kind-other s k v k′ ne = getD-set-other (s .kinds) k k′ v 0 ne
 
-three-zero : (i : ℕ) → getD (pos 0 ∷ pos 0 ∷ pos 0 ∷ []) i (pos 0) ≡ pos 0
-three-zero i = replicate-all (λ (e : ℤ). e ≡ pos 0) (pos 0) (pos 0) refl refl 3 i
-
-cleared-below : (l : List ℤ) (k n : ℕ) → length l ≡ effectCount → k < caseCount → n ≤ stationCount → (t j : ℕ) → t < n → j < componentCount → effectIn (cleared l k n) k t j ≡ pos 0
-unfolding cleared
-cleared-below l k zero long a b t j h g = absurd (omega arith)
-cleared-below l k (suc n) long a b t j h g =
-    ⊎-elim
-    (λ (e : t ≡ n).
-    let w : place k n + 3 ≤ length (cleared l k n) = rw (length-cleared l k n) (omega arith) in
-    rw e (sets-at (pos 0) (pos 0 ∷ pos 0 ∷ pos 0 ∷ []) (cleared l k n) (place k n) j g w ∙ three-zero j))
-    (λ (ne : t ≡ n → ⊥).
-    let u : t < n = omega arith in
-    let b′ : n ≤ stationCount = omega arith in
-    sets-keep (λ (e : ℤ). e ≡ pos 0) (pos 0) (pos 0 ∷ pos 0 ∷ pos 0 ∷ []) (cleared l k n) (place k n) (place k t + j) (cleared-below l k n long a b′ t j u g) three-zero)
-    (eq-or-ne t n)
-
-cleared-other : (l : List ℤ) (k k′ : ℕ) → k < caseCount → k′ < caseCount → (k′ ≡ k → ⊥) → (n t j : ℕ) → j < componentCount → effectIn (cleared l k n) k′ t j ≡ effectIn l k′ t j
-unfolding cleared
-cleared-other l k k′ a b ne zero t j h = refl
-cleared-other l k k′ a b ne (suc n) t j h =
-    effects-other (cleared l k n) k n (pos 0) (pos 0) (pos 0) k′ t j a b (λ e. ne (e .0)) h ∙ cleared-other l k k′ a b ne n t j h
-
-pub effect-cleared : (s : Sheet) (k v t j : ℕ) → Long s → k < caseCount → t < stationCount → j < componentCount → effectAt (withKind s k v) k t j ≡ pos 0
+pub effect-cleared : (s : Sheet) (k v t j : ℕ) → WellFormed s → k < caseCount → t < stationCount → j < componentCount → effectAt (withKind s k v) k t j ≡ pos 0
 unfolding effectAt withKind
 effect-cleared s k v t j h a b g = cleared-below (s .effects) k stationCount (h .effects) a (omega arith) t j b g
 
@@ -137,12 +93,11 @@ unfolding withKind
 kind-leaves-settings s k v = refl
 
 -- ---- effects that are replaced
-pub effect-replaced : (s : Sheet) (k t : ℕ) (n y z : ℤ) (j : ℕ) → Long s → k < caseCount → t < stationCount → j < componentCount →
+pub effect-replaced : (s : Sheet) (k t : ℕ) (n y z : ℤ) (j : ℕ) → WellFormed s → k < caseCount → t < stationCount → j < componentCount →
     effectAt (withEffects s k t n y z) k t j ≡ getD (n ∷ y ∷ z ∷ []) j (pos 0)
 unfolding effectAt withEffects
 effect-replaced s k t n y z j h a b g =
-    let w : place k t + 3 ≤ length (s .effects) = rw (h .effects) (omega arith) in
-    sets-at (pos 0) (n ∷ y ∷ z ∷ []) (s .effects) (place k t) j g w
+    effects-at (s .effects) k t n y z j (h .effects) a b g
 
 pub effect-other : (s : Sheet) (k t : ℕ) (n y z : ℤ) (k′ t′ j : ℕ) → k < caseCount → k′ < caseCount → j < componentCount → ((k′ ≡ k) × (t′ ≡ t) → ⊥) →
     effectAt (withEffects s k t n y z) k′ t′ j ≡ effectAt s k′ t′ j
@@ -162,7 +117,7 @@ unfolding withEffects
 effects-leave-settings s k t n y z = refl
 
 -- ---- capacities that are replaced
-pub capacity-replaced : (s : Sheet) (t n y z j : ℕ) → Long s → t < stationCount → j < componentCount → capacityAt (withCapacities s t n y z) t j ≡ getD (n ∷ y ∷ z ∷ []) j 0
+pub capacity-replaced : (s : Sheet) (t n y z j : ℕ) → WellFormed s → t < stationCount → j < componentCount → capacityAt (withCapacities s t n y z) t j ≡ getD (n ∷ y ∷ z ∷ []) j 0
 unfolding capacityAt withCapacities
 capacity-replaced s t n y z j h a g =
     let w : t * 3 + 3 ≤ length (s .capacities) = rw (h .capacities) (omega arith) in
@@ -205,8 +160,8 @@ pub fresh-capacity : (settings : Settings) (t j : ℕ) → capacityAt (fresh set
 unfolding capacityAt fresh
 fresh-capacity settings t j = replicate-all (λ (n : ℕ). n ≡ 0) 0 0 refl refl capacityCount (t * 3 + j)
 
--- ---- sheets that look the same are the same
-pub same-sheet : (a b : Sheet) → Long a → Long b → a .settings ≡ b .settings →
+-- ---- sheets that look the same are the same: by what they hold beside their sums, which follow
+pub same-sheet : (a b : Sheet) → WellFormed a → WellFormed b → a .settings ≡ b .settings →
     ((k : ℕ) → k < caseCount → kindAt a k ≡ kindAt b k) →
     ((k t j : ℕ) → k < caseCount → t < stationCount → j < componentCount → effectAt a k t j ≡ effectAt b k t j) →
     ((t j : ℕ) → t < stationCount → j < componentCount → capacityAt a t j ≡ capacityAt b t j) → a ≡ b
@@ -226,7 +181,5 @@ same-sheet a b p q s kinds effects capacities =
     let u : i / 3 < stationCount = omega arith in
     let w : i % 3 < componentCount = omega arith in
     rw f at (capacities (i / 3) (i % 3) u w)) in
-    let g : _≡_ {A = Sheet}
-    (record { settings = a .settings; kinds = a .kinds; effects = a .effects; capacities = a .capacities })
-    (record { settings = b .settings; kinds = b .kinds; effects = b .effects; capacities = b .capacities }) = rw (s, k, e, c) in
-    g
+    let u : a .sums ≡ b .sums = p .sums ∙ (λ i. sumsOf (k i) (e i)) ∙ sym (q .sums) in
+    λ i. record { settings = s i; kinds = k i; effects = e i; sums = u i; capacities = c i }

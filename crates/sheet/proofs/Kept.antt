@@ -1,40 +1,37 @@
 -- A fresh sheet is in range, and each field keeps a sheet so.
 -- Assumes nothing.
-use Prim.Native.Nat.{ℕ, zero, suc, _≤_, _<_, zero-le}
+use Prim.Native.Nat.{ℕ, zero, suc, _<_, zero-le}
 use mathlib.Core.Path.{_≡_, refl, sym, _∙_}
-use mathlib.Core.List.{List, [], _∷_}
+use mathlib.Core.List.{[], _∷_}
 use mathlib.Core.Bool.{true, false}
 use mathlib.Core.Logic.{⊎-elim, inl, inr}
 use native.Mathlib.Omega.{arith}
 use lib.Dec.{eqb}
 use lib.ListN.{getD}
-use lib.IntN.{ℤ, pos, natAbs}
+use lib.IntN.{pos}
 use borrow.Author.Tests.{eqb-true}
 use Rattle.standard.specs.declared.Settings.{Settings}
 use Rattle.standard.specs.Range.{SettingsInRange}
 use Rattle.standard.specs.Rows.{settingsOf, switched, strained, freshSettings}
 use Rattle.standard.specs.Kinds.{kindCount}
 use Rattle.standard.specs.Combination.{caseCount}
-use Rattle.envelope.specs.Range.{effectLimit, stationCount}
+use Rattle.envelope.specs.Range.{stationCount}
 use Rattle.wire.specs.Bytes.{signed16}
 use Rattle.wire.proofs.Cases.{either, eq-or-ne}
-use Rattle.wire.proofs.Stores.{set-keep, sets-keep, replicate-all}
+use Rattle.wire.proofs.Stores.{set-keep, sets-keep}
 use Rattle.sheet.specs.declared.Sheet.{Sheet}
 use Rattle.sheet.specs.Sheet.{kindAt, effectAt, capacityAt, fresh, freshSheet, withKind, withEffects, withCapacities, withSettings, withSwitch, withStraining}
-use Rattle.effects.specs.Effects.{place, cleared}
+use Rattle.effects.specs.Effects.{place}
+use Rattle.effects.proofs.Stored.{Within, cleared-within}
 use Rattle.refusals.specs.Refusals.{dueSettings, dueCapacities, dueSwitch}
 use Rattle.sheet.specs.Edits.{dueFill, dueEffects, dueEmpty, dueFactor, unlessRefused}
 use Rattle.sheet.specs.Range.{InRange, AllOrNone}
 use Rattle.refusals.proofs.Fits.{settings-range, switch-range, straining-range, fill-range, effects-range, empty-range, capacities-range}
-use Rattle.sheet.proofs.Access.{long, fresh-long, kind-long, effects-long, capacities-long, kind-other, effect-cleared, effect-kept, effect-other, capacity-replaced, capacity-other, fresh-kind, fresh-settings, fresh-stored, fresh-effect, fresh-capacity}
-
--- an effect within its limit
-abbrev Within : ℤ → Type 0
-Within e = natAbs e ≤ effectLimit
+use Rattle.sheet.proofs.Access.{well-formed, fresh-formed, kind-formed, effects-formed, capacities-formed, kind-other, effect-cleared, effect-kept, effect-other, capacity-replaced, capacity-other, fresh-kind, fresh-settings, fresh-stored, fresh-effect, fresh-capacity}
 
 pub fresh-in-range : (settings : Settings) → SettingsInRange settings → InRange (fresh settings)
 fresh-in-range settings e =
-    let l = fresh-long settings in
+    let l = fresh-formed settings in
     record {
       settings = rw (fresh-settings settings) e;
       kinds-long = l .kinds;
@@ -43,6 +40,7 @@ fresh-in-range settings e =
       kinds-range = λ k. rw (fresh-kind settings k) (omega arith);
       effects-range = λ i. rw (fresh-stored settings i) zero-le;
       empty-zero = λ k t j _ _ _ _. fresh-effect settings k t j;
+      sums-true = l .sums;
       capacities-whole = λ t _. inl (fresh-capacity settings t 0, fresh-capacity settings t 1, fresh-capacity settings t 2);
     }
 
@@ -50,17 +48,10 @@ pub fresh-kept : InRange freshSheet
 fresh-kept = fresh-in-range freshSettings (record { method = refl; live = refl; zone = refl; ice = refl; straining = refl })
 
 -- a place that is filled or emptied
-cleared-within : (l : List ℤ) (k n i : ℕ) → Within (getD l i (pos 0)) → Within (getD (cleared l k n) i (pos 0))
-unfolding cleared
-cleared-within l k zero i h = h
-cleared-within l k (suc n) i h =
-    sets-keep Within (pos 0) (pos 0 ∷ pos 0 ∷ pos 0 ∷ []) (cleared l k n) (place k n) i (cleared-within l k n i h)
-    (replicate-all Within (pos 0) (pos 0) zero-le zero-le 3)
-
 kind-kept : (s : Sheet) (k v : ℕ) → InRange s → k < caseCount → v < kindCount → InRange (withKind s k v)
 unfolding withKind capacityAt
 kind-kept s k v h a b =
-    let l = kind-long s k v (long h) in
+    let l = kind-formed s k v (well-formed h) in
     record {
       settings = h .settings;
       kinds-long = l .kinds;
@@ -69,9 +60,10 @@ kind-kept s k v h a b =
       kinds-range = λ q. set-keep (λ (n : ℕ). n < kindCount) 0 (s .kinds) k v q (h .kinds-range q) b;
       effects-range = λ i. cleared-within (s .effects) k stationCount i (h .effects-range i);
       empty-zero = λ q t j e c d f. ⊎-elim
-          (λ (r : q ≡ k). rw r (effect-cleared s k v t j (long h) a d f))
+          (λ (r : q ≡ k). rw r (effect-cleared s k v t j (well-formed h) a d f))
           (λ (ne : q ≡ k → ⊥). effect-kept s k v q t j a c f ne ∙ h .empty-zero q t j (sym (kind-other s k v q ne) ∙ e) c d f)
           (eq-or-ne q k);
+      sums-true = l .sums;
       capacities-whole = h .capacities-whole;
     }
 
@@ -91,7 +83,7 @@ pub effects-kept : (s : Sheet) (k t n y z : ℕ) → InRange s → dueEffects s 
 unfolding withEffects capacityAt
 effects-kept s k t n y z h e =
     let f = effects-range (kindAt s k) k t n y z e in
-    let l = effects-long s k t (signed16 n) (signed16 y) (signed16 z) (long h) in
+    let l = effects-formed s k t (signed16 n) (signed16 y) (signed16 z) (well-formed h) in
     record {
       settings = h .settings;
       kinds-long = l .kinds;
@@ -104,6 +96,7 @@ effects-kept s k t n y z h e =
           (λ (r : q ≡ k). absurd (f .filled (rw r at o)))
           (λ (ne : q ≡ k → ⊥). effect-other s k t (signed16 n) (signed16 y) (signed16 z) q u j (f .case) a c (λ g. ne (g .0)) ∙ h .empty-zero q u j o a b c)
           (eq-or-ne q k);
+      sums-true = l .sums;
       capacities-whole = h .capacities-whole;
     }
 
@@ -115,7 +108,7 @@ pub capacities-kept : (s : Sheet) (t n y z : ℕ) → InRange s → dueCapacitie
 unfolding withCapacities effectAt
 capacities-kept s t n y z h e =
     let f = capacities-range t n y z e in
-    let l = capacities-long s t n y z (long h) in
+    let l = capacities-formed s t n y z (well-formed h) in
     record {
       settings = h .settings;
       kinds-long = l .kinds;
@@ -124,8 +117,9 @@ capacities-kept s t n y z h e =
       kinds-range = h .kinds-range;
       effects-range = h .effects-range;
       empty-zero = h .empty-zero;
+      sums-true = l .sums;
       capacities-whole = λ u c. ⊎-elim
-          (λ (r : u ≡ t). rw r (same-capacities (λ j g. capacity-replaced s t n y z j (long h) (f .station) g) (inr (f .n, f .y, f .z))))
+          (λ (r : u ≡ t). rw r (same-capacities (λ j g. capacity-replaced s t n y z j (well-formed h) (f .station) g) (inr (f .n, f .y, f .z))))
           (λ (ne : u ≡ t → ⊥). same-capacities (λ j g. capacity-other s t n y z u j g ne) (h .capacities-whole u c))
           (eq-or-ne u t);
     }
@@ -155,6 +149,7 @@ settings-kept s settings h range =
       kinds-range = h .kinds-range;
       effects-range = h .effects-range;
       empty-zero = h .empty-zero;
+      sums-true = h .sums-true;
       capacities-whole = h .capacities-whole;
     }
 

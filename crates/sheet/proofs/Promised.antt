@@ -1,13 +1,13 @@
 -- The looks at a sheet in range govern: what is computed from a station's part of the effects is so of the accessors' effects.
 -- Assumes nothing.
-use Prim.Native.Nat.{ℕ, zero, suc, _≤_, _<_}
+use Prim.Native.Nat.{ℕ, _≤_, _<_}
 use mathlib.Core.Path.{_≡_, refl, sym, ap, _∙_, subst}
 use mathlib.Core.Logic.{_⊎_, inl, inr}
 use native.Mathlib.Omega.{arith}
 use lib.ListN.{length, List·getD-eq-default}
-use lib.IntN.{ℤ, pos, _+ℤ_, _*ℤ_}
+use lib.IntN.{ℤ, pos, _*ℤ_}
 use lib.Signed.{_≤ℤ_}
-use Rattle.integers.specs.Sums.{sumℤ}
+use Rattle.integers.proofs.Linear.{sum-agrees}
 use Rattle.wire.proofs.Cases.{eq-or-ne}
 use Rattle.standard.specs.declared.Settings.{Settings}
 use Rattle.standard.specs.declared.Capacities.{Capacities}
@@ -30,14 +30,6 @@ use Rattle.sheet.proofs.Refusals.{answered-none, answered-due}
 use Rattle.sheet.proofs.Stations.{effect-seen}
 
 -- ---- a factored effect depends on the effects of the cases alone
-sum-agrees : (n : ℕ) (f g : ℕ → ℤ) → ((k : ℕ) → k < n → f k ≡ g k) → sumℤ n f ≡ sumℤ n g
-unfolding sumℤ
-sum-agrees zero f g e = refl
-sum-agrees (suc n) f g e =
-    let p : sumℤ n f ≡ sumℤ n g = sum-agrees n f g (λ k l. e k (omega arith)) in
-    let q : f n ≡ g n = e n (omega arith) in
-    λ i. p i +ℤ q i
-
 module _ (s : Settings) (kind : ℕ → ℕ) where
   effect-agrees : (c : Combination) (f g : ℕ → ℤ) → ((k : ℕ) → k < caseCount → f k ≡ g k) → factoredEffect s kind c f ≡ factoredEffect s kind c g
   unfolding factoredEffect

@@ -1,9 +1,9 @@
--- The station of a sheet in range is in the envelope's range, and its effects are those that the accessor gives.
+-- The station of a sheet in range is in the envelope's range, its effects are those that the accessor gives, and its sums are the totals.
 -- Assumes nothing.
-use Prim.Native.Nat.{ℕ, _+_, _*_, _-_, _<_, _≤_}
+use Prim.Native.Nat.{ℕ, suc, _+_, _*_, _-_, _<_, _≤_}
 use native.Mathlib.Nat.{add-zero}
 use native.Mathlib.Omega.{arith}
-use mathlib.Core.Bool.{Bool, false}
+use mathlib.Core.Bool.{Bool, false, cond}
 use mathlib.Core.List.{List}
 use mathlib.Core.Logic.{_⊎_, inl, inr, ⊎-elim}
 use mathlib.Core.Path.{_≡_, refl, sym, ap, subst, _∙_}
@@ -13,8 +13,13 @@ use lib.IntN.{ℤ, pos, natAbs}
 use Rattle.wire.proofs.Cases.{lt-or-ge}
 use Rattle.standard.specs.declared.Capacities.{Capacities}
 use Rattle.standard.specs.Combination.{caseCount}
-use Rattle.envelope.specs.Range.{effectOf, effectLimit, capacityLimit, stationCount, componentCount, StationInRange, CapacitiesInRange}
-use Rattle.effects.specs.Effects.{stationLength, place}
+use Rattle.optimum.specs.Row.{totalOf}
+use Rattle.envelope.specs.Range.{kindOf, effectOf, effectLimit, capacityLimit, stationCount, componentCount, StationInRange, CapacitiesInRange}
+use Rattle.sums.specs.Sums.{totalCount, TotalsHeld}
+use Rattle.integers.proofs.Linear.{where-agrees}
+use Rattle.effects.specs.Effects.{stationLength, effectIn, place}
+use Rattle.dead_sums.specs.DeadSums.{stationSums, deadSumCount, sumPlace, sumIn, ofDeadKind}
+use Rattle.dead_sums.proofs.Sums.{sums-long, sum-is}
 use Rattle.sheet.specs.declared.Sheet.{Sheet}
 use Rattle.sheet.specs.Sheet.{kindAt, effectAt, capacityAt}
 use Rattle.refusals.specs.Refusals.{capacityOutside}
@@ -26,6 +31,13 @@ use Rattle.refusals.proofs.Fits.{inside}
 pub part-is : (s : Sheet) (t : ℕ) → take (t * stationLength + stationLength - t * stationLength) (drop (t * stationLength) (s .effects)) ≡ stationEffects s t
 unfolding stationEffects
 part-is s t = let e : t * stationLength + stationLength - t * stationLength ≡ stationLength = omega arith in ap (λ (n : ℕ). take n (drop (t * stationLength) (s .effects))) e
+
+-- the sums that it lends
+abbrev pub stationTotals : Sheet → ℕ → List ℤ
+stationTotals s t = take stationSums (drop (t * stationSums) (s .sums))
+
+pub totals-part-is : (s : Sheet) (t : ℕ) → take (t * stationSums + stationSums - t * stationSums) (drop (t * stationSums) (s .sums)) ≡ stationTotals s t
+totals-part-is s t = let e : t * stationSums + stationSums - t * stationSums ≡ stationSums = omega arith in ap (λ (n : ℕ). take n (drop (t * stationSums) (s .sums))) e
 
 -- and the capacities that it reads
 pub capacities-read : (s : Sheet) (t : ℕ) →
@@ -57,6 +69,38 @@ module _ (s : Sheet) (t : ℕ) (h : InRange s) (l : t < stationCount) where
   effect-seen k j m n =
       let e : t * stationLength + (k * 3 + j) ≡ place k t + j = omega arith in
       station-at (k * 3 + j) (omega arith) ∙ ap (λ (i : ℕ). getD (s .effects) i (pos 0)) e
+
+  pub sums-long-at : length (s .sums) ≡ deadSumCount
+  sums-long-at = ap length (h .sums-true) ∙ sums-long (ofDeadKind (s .kinds)) (s .effects)
+
+  -- the sums held for the station are the totals of its D and F cases
+  pub totals-held : TotalsHeld (stationTotals s t) (s .kinds) (stationEffects s t)
+  unfolding totalOf effectAt
+  totals-held = record {
+    long = simp (length-take, length-drop) (omega (arith, sums-long-at));
+    are = record { on = λ c b. record { each = λ j m. total c b j m } };
+  }
+    where
+      read : (c : ℕ) → c < componentCount → (j : ℕ) → j < totalCount → effectOf (stationTotals s t) j c ≡ sumIn (s .sums) j t c
+      read c b j m =
+          let e : t * stationSums + (j * 3 + c) ≡ sumPlace j t + c = omega arith in
+          let i : j * 3 + c < stationSums = omega arith in
+          rw (getD-take, getD-drop) (ap (λ (n : ℕ). getD (s .sums) n (pos 0)) e)
+
+      total : (c : ℕ) → c < componentCount → (j : ℕ) → j < totalCount → effectOf (stationTotals s t) j c ≡ totalOf (kindOf (s .kinds)) (λ k. effectOf (stationEffects s t) k c) (suc j)
+      total c b j m =
+          read c b j m
+          ∙ ap (λ (x : List ℤ). sumIn x j t c) (h .sums-true)
+          ∙ sum-is (ofDeadKind (s .kinds)) (s .effects) j t c m l b
+          ∙ where-agrees caseCount (ofDeadKind (s .kinds) j) (ofDeadKind (s .kinds) j) (λ k. effectIn (s .effects) k t c) (λ k. effectOf (stationEffects s t) k c)
+          (λ k n. ap (λ (x : ℤ). cond (ofDeadKind (s .kinds) j k) x (pos 0)) (sym (effect-seen k c n b)))
+
+  -- as the code lends them
+  pub held-parts : TotalsHeld (take (t * stationSums + stationSums - t * stationSums) (drop (t * stationSums) (s .sums))) (s .kinds)
+      (take (t * stationLength + stationLength - t * stationLength) (drop (t * stationLength) (s .effects)))
+  held-parts =
+      subst (λ (x : List ℤ). TotalsHeld x (s .kinds) (take (t * stationLength + stationLength - t * stationLength) (drop (t * stationLength) (s .effects)))) (sym (totals-part-is s t))
+      (subst (TotalsHeld (stationTotals s t) (s .kinds)) (sym (part-is s t)) totals-held)
 
   pub capacities-in-range : 0 < capacityAt s t 0 → CapacitiesInRange (capacitiesAt s t)
   unfolding capacitiesAt

@@ -1,4 +1,4 @@
--- A sheet apart from its effects, which are lent, and the whole of both.
+-- A sheet apart from its effects and sums, which are lent, and the whole of all three.
 use mathlib.Core.List.{List}
 use lib.IntN.{ℤ}
 use Rattle.sheet.specs.declared.Sheet.{Sheet}
@@ -9,8 +9,8 @@ use Rattle.sheet.specs.declared.Answered.{Answered}
 abbrev pub restOf : Sheet → Rest
 restOf s = record { settings = s .settings; kinds = s .kinds; capacities = s .capacities }
 
-abbrev pub whole : Rest → List ℤ → Sheet
-whole r effects = record { settings = r .settings; kinds = r .kinds; effects = effects; capacities = r .capacities }
+abbrev pub whole : Rest → List ℤ → List ℤ → Sheet
+whole r effects sums = record { settings = r .settings; kinds = r .kinds; effects = effects; sums = sums; capacities = r .capacities }
 
-abbrev pub wholeOf : AnsweredRest → List ℤ → Answered
-wholeOf a effects = record { answer = a .answer; sheet = whole (a .rest) effects }
+abbrev pub wholeOf : AnsweredRest → List ℤ → List ℤ → Answered
+wholeOf a effects sums = record { answer = a .answer; sheet = whole (a .rest) effects sums }

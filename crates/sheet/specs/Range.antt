@@ -1,4 +1,4 @@
--- SCOPE 2.1 to 2.5: the range of a sheet, which is what holds of every sheet that fields make from a fresh one.
+-- SCOPE 2.1 to 2.5 and 2.7: the range of a sheet, which is what holds of every sheet that fields make from a fresh one.
 use Prim.Native.Nat.{ℕ, _≤_, _<_}
 use mathlib.Core.Path.{_≡_}
 use mathlib.Core.Bool.{false}
@@ -11,6 +11,7 @@ use Rattle.standard.specs.Combination.{caseCount}
 use Rattle.envelope.specs.Range.{effectLimit, stationCount, componentCount}
 use Rattle.refusals.specs.Refusals.{capacityOutside}
 use Rattle.effects.specs.Effects.{effectCount}
+use Rattle.dead_sums.specs.DeadSums.{sumsOf}
 use Rattle.sheet.specs.declared.Sheet.{Sheet}
 use Rattle.sheet.specs.Sheet.{kindAt, effectAt, capacityCount, capacityAt}
 
@@ -29,4 +30,6 @@ pub record InRange (s : Sheet) : Type 0 where
   pub effects-range : (i : ℕ) → natAbs (getD (s .effects) i (pos 0)) ≤ effectLimit
   -- an empty place holds zeros (SCOPE 5.2)
   pub empty-zero : (k t j : ℕ) → kindAt s k ≡ 0 → k < caseCount → t < stationCount → j < componentCount → effectAt s k t j ≡ pos 0
+  -- the sums that are held are those of the cases (SCOPE 2.7)
+  pub sums-true : s .sums ≡ sumsOf (s .kinds) (s .effects)
   pub capacities-whole : (t : ℕ) → t < stationCount → AllOrNone (capacityAt s t 0) (capacityAt s t 1) (capacityAt s t 2)

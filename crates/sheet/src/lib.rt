@@ -15,6 +15,9 @@ ghost use Rattle.sheet.specs.Range.{InRange};
 ghost use Rattle.sheet.specs.Looks.{extremesAt, utilisationAt, unlessDue, edited, dueUtilisation, lookedExtremes, lookedUtilisation, ExtremesPromised, UtilisationPromised};
 ghost use Rattle.sheet.specs.Parts.{restOf, whole, wholeOf};
 ghost use Rattle.sheet.specs.Edits.{dueFill, dueEffects, dueEmpty, dueFactor, unlessRefused};
+use dead_sums::DEAD_SUMS;
+use dead_sums::DeadSums;
+use dead_sums::STATION_SUMS;
 use effects::COMPONENTS;
 use effects::EFFECTS;
 use effects::Effects;
@@ -32,6 +35,7 @@ pub struct Sheet {
     pub settings: Settings,
     pub kinds: [u8; CASES],
     pub effects: Effects,
+    pub sums: DeadSums,
     pub capacities: [u16; CAPACITIES],
 }
 
@@ -55,7 +59,7 @@ pub struct Edited {
     pub sheet: Sheet,
 }
 
-// A sheet apart from its effects: the fields that work on it are lent those, and copy none.
+// A sheet apart from its effects and sums: the fields that work on it are lent those, and copy none.
 pub struct Rest {
     pub settings: Settings,
     pub kinds: [u8; CASES],
@@ -76,11 +80,12 @@ impl Sheet {
             settings,
             kinds: [0u8; CASES],
             effects: [0i16; EFFECTS],
+            sums: [0i64; DEAD_SUMS],
             capacities: [0u16; CAPACITIES],
         }
     }
 
-    // The sheet apart from its effects.
+    // The sheet apart from its effects and sums.
     pub fn rest(self) -> Rest
         ensures { λ r. ⌜ r ≡ restOf self ⌝ }
     {
@@ -99,36 +104,44 @@ impl Sheet {
         ensures { λ r. ⌜ r ≡ edited (unlessRefused (dueSettings method live zone) self (fresh (settingsOf method live zone))) ⌝ }
     {
         let mut effects = self.effects;
-        let r = self.rest().restart(&mut effects, method, live, zone);
-        r.with_effects(effects)
+        let mut sums = self.sums;
+        let r = self.rest()
+            .restart(&mut effects, &mut sums, method, live, zone);
+        r.with_effects(effects, sums)
     }
 
     // Tag 02.
     pub fn fill(self, case: u8, kind: u8) -> Answered
+        requires { ⌜ InRange self ⌝ }
         ensures { λ r. ⌜ r ≡ edited (unlessRefused (dueFill self case kind) self (withKind self case kind)) ⌝ }
     {
-        let mut effects = self.effects;
-        let r = self.rest().fill(&mut effects, case, kind);
-        r.with_effects(effects)
+        let effects = self.effects;
+        let sums = self.sums;
+        let r = self.rest().fill(case, kind);
+        r.with_effects(effects, sums)
     }
 
     // Tag 03.
     pub fn replace_effects(self, case: u8, station: u8, n: u16, y: u16, z: u16) -> Answered
+        requires { ⌜ InRange self ⌝ }
         ensures { λ r. ⌜ r ≡ edited (unlessRefused (dueEffects self case station n y z) self (withEffects self case station (signed16 n) (signed16 y) (signed16 z))) ⌝ }
     {
         let mut effects = self.effects;
+        let mut sums = self.sums;
         let r = self.rest()
-            .replace_effects(&mut effects, case, station, n, y, z);
-        r.with_effects(effects)
+            .replace_effects(&mut effects, &mut sums, case, station, n, y, z);
+        r.with_effects(effects, sums)
     }
 
     // Tag 04.
     pub fn empty(self, case: u8) -> Answered
+        requires { ⌜ InRange self ⌝ }
         ensures { λ r. ⌜ r ≡ edited (unlessRefused (dueEmpty self case) self (withKind self case 0)) ⌝ }
     {
         let mut effects = self.effects;
-        let r = self.rest().empty(&mut effects, case);
-        r.with_effects(effects)
+        let mut sums = self.sums;
+        let r = self.rest().empty(&mut effects, &mut sums, case);
+        r.with_effects(effects, sums)
     }
 
     // Tag 05.
@@ -136,8 +149,9 @@ impl Sheet {
         ensures { λ r. ⌜ r ≡ edited (unlessRefused (dueCapacities station n y z) self (withCapacities self station n y z)) ⌝ }
     {
         let effects = self.effects;
+        let sums = self.sums;
         let r = self.rest().replace_capacities(station, n, y, z);
-        r.with_effects(effects)
+        r.with_effects(effects, sums)
     }
 
     // Tag 08.
@@ -145,8 +159,9 @@ impl Sheet {
         ensures { λ r. ⌜ r ≡ edited (unlessRefused (dueSwitch byte) self (withSwitch self byte)) ⌝ }
     {
         let effects = self.effects;
+        let sums = self.sums;
         let r = self.rest().switch_ice(byte);
-        r.with_effects(effects)
+        r.with_effects(effects, sums)
     }
 
     // Tag 09.
@@ -154,8 +169,9 @@ impl Sheet {
         ensures { λ r. ⌜ r ≡ edited (unlessRefused (dueFactor self factor) self (withStraining self factor)) ⌝ }
     {
         let effects = self.effects;
+        let sums = self.sums;
         let r = self.rest().set_straining(factor);
-        r.with_effects(effects)
+        r.with_effects(effects, sums)
     }
 
     // Tag 06.
@@ -164,7 +180,9 @@ impl Sheet {
         ensures { λ r. ⌜ (r ≡ lookedExtremes self station component) × ExtremesPromised self station component (r .answer) ⌝ }
     {
         let effects = self.effects;
-        let answer = self.rest().look_extremes(&effects, station, component);
+        let sums = self.sums;
+        let answer = self.rest()
+            .look_extremes(&effects, &sums, station, component);
         Answered {
             answer,
             sheet: self,
@@ -177,7 +195,8 @@ impl Sheet {
         ensures { λ r. ⌜ (r ≡ lookedUtilisation self station) × UtilisationPromised self station (r .answer) ⌝ }
     {
         let effects = self.effects;
-        let answer = self.rest().look_utilisation(&effects, station);
+        let sums = self.sums;
+        let answer = self.rest().look_utilisation(&effects, &sums, station);
         Answered {
             answer,
             sheet: self,
@@ -197,20 +216,20 @@ fn number_at(s: &[u16], at: usize) -> u16
 
 impl AnsweredRest {
     // The answer with the whole sheet beside it.
-    fn with_effects(self, effects: Effects) -> Answered
-        ensures { λ r. ⌜ r ≡ wholeOf self effects ⌝ }
+    fn with_effects(self, effects: Effects, sums: DeadSums) -> Answered
+        ensures { λ r. ⌜ r ≡ wholeOf self effects sums ⌝ }
     {
         let answer = self.answer;
         let rest = self.rest;
         Answered {
             answer,
-            sheet: rest.with_effects(effects),
+            sheet: rest.with_effects(effects, sums),
         }
     }
 }
 
 impl Rest {
-    // A fresh sheet apart from its effects.
+    // A fresh sheet apart from its effects and sums.
     pub fn fresh(settings: Settings) -> Rest
         ensures { λ r. ⌜ r ≡ restOf (fresh settings) ⌝ }
     {
@@ -222,8 +241,8 @@ impl Rest {
     }
 
     // The whole sheet.
-    pub fn with_effects(self, effects: Effects) -> Sheet
-        ensures { λ r. ⌜ r ≡ whole self effects ⌝ }
+    pub fn with_effects(self, effects: Effects, sums: DeadSums) -> Sheet
+        ensures { λ r. ⌜ r ≡ whole self effects sums ⌝ }
     {
         let settings = self.settings;
         let kinds = self.kinds;
@@ -232,6 +251,7 @@ impl Rest {
             settings,
             kinds,
             effects,
+            sums,
             capacities,
         }
     }
@@ -259,7 +279,7 @@ impl Rest {
 
     // Other settings, where no refusal is due.
     fn replace_settings(self, due: u8, settings: Settings) -> AnsweredRest
-        ensures { λ r. ⌜ ((effects : List ℤ) → wholeOf r effects ≡ edited (unlessRefused due (whole self effects) (withSettings (whole self effects) settings))) ⌝ }
+        ensures { λ r. ⌜ ((effects sums : List ℤ) → wholeOf r effects sums ≡ edited (unlessRefused due (whole self effects sums) (withSettings (whole self effects sums) settings))) ⌝ }
     {
         if due == 0 {
             let mut rest = self;
@@ -276,12 +296,19 @@ impl Rest {
     }
 
     // Tag 01.
-    pub fn restart(self, effects: &mut Effects, method: u8, live: u8, zone: u8) -> AnsweredRest
-        ensures { λ r. ⌜ wholeOf r (now (effects .exit)) ≡ edited (unlessRefused (dueSettings method live zone) (whole self (now (effects .entry))) (fresh (settingsOf method live zone))) ⌝ }
+    pub fn restart(
+        self,
+        effects: &mut Effects,
+        sums: &mut DeadSums,
+        method: u8,
+        live: u8,
+        zone: u8,
+    ) -> AnsweredRest
+        ensures { λ r. ⌜ wholeOf r (now (effects .exit)) (now (sums .exit)) ≡ edited (unlessRefused (dueSettings method live zone) (whole self (now (effects .entry)) (now (sums .entry))) (fresh (settingsOf method live zone))) ⌝ }
     {
         let due = refusals::due_settings(method, live, zone);
         if due == 0 {
-            effects::clear_all(effects);
+            dead_sums::clear_all(effects, sums);
             let rest = Rest::fresh(Settings::of(method, live, zone));
             return AnsweredRest {
                 answer: Answer::Accepted,
@@ -294,16 +321,15 @@ impl Rest {
         }
     }
 
-    // Tag 02.
-    pub fn fill(self, effects: &mut Effects, case: u8, kind: u8) -> AnsweredRest
-        ensures { λ r. ⌜ wholeOf r (now (effects .exit)) ≡ edited (unlessRefused (dueFill (whole self (now (effects .entry))) case kind) (whole self (now (effects .entry))) (withKind (whole self (now (effects .entry))) case kind)) ⌝ }
+    // Tag 02. An empty place has no effects, so that none is stored, and no sum changes.
+    pub fn fill(self, case: u8, kind: u8) -> AnsweredRest
+        ensures { λ r. ⌜ ((effects sums : List ℤ) → InRange (whole self effects sums) → wholeOf r effects sums ≡ edited (unlessRefused (dueFill (whole self effects sums) case kind) (whole self effects sums) (withKind (whole self effects sums) case kind))) ⌝ }
     {
         let k = case as usize;
         let held = wire::byte(&self.kinds, k);
         let due = refusals::due_fill(case, kind, held);
         if due == 0 {
             let rest = self.with_kind(k, kind);
-            effects::clear_case(effects, k);
             return AnsweredRest {
                 answer: Answer::Accepted,
                 rest,
@@ -319,23 +345,28 @@ impl Rest {
     pub fn replace_effects(
         self,
         effects: &mut Effects,
+        sums: &mut DeadSums,
         case: u8,
         station: u8,
         n: u16,
         y: u16,
         z: u16,
     ) -> AnsweredRest
-        ensures { λ r. ⌜ wholeOf r (now (effects .exit)) ≡ edited (unlessRefused (dueEffects (whole self (now (effects .entry))) case station n y z) (whole self (now (effects .entry))) (withEffects (whole self (now (effects .entry))) case station (signed16 n) (signed16 y) (signed16 z))) ⌝ }
+        requires { ⌜ InRange (whole self (now effects) (now sums)) ⌝ }
+        ensures { λ r. ⌜ wholeOf r (now (effects .exit)) (now (sums .exit)) ≡ edited (unlessRefused (dueEffects (whole self (now (effects .entry)) (now (sums .entry))) case station n y z) (whole self (now (effects .entry)) (now (sums .entry))) (withEffects (whole self (now (effects .entry)) (now (sums .entry))) case station (signed16 n) (signed16 y) (signed16 z))) ⌝ }
     {
         let k = case as usize;
         let held = wire::byte(&self.kinds, k);
         let due = refusals::due_effects(case, station, n, y, z, held);
         if due == 0 {
             let t = station as usize;
-            let at = t * STATION_EFFECTS + k * COMPONENTS;
-            effects::put_effects(
+            let kinds = self.kinds;
+            dead_sums::put_effects(
                 effects,
-                at,
+                sums,
+                &kinds,
+                k,
+                t,
                 wire::signed(n),
                 wire::signed(y),
                 wire::signed(z),
@@ -352,15 +383,17 @@ impl Rest {
     }
 
     // Tag 04.
-    pub fn empty(self, effects: &mut Effects, case: u8) -> AnsweredRest
-        ensures { λ r. ⌜ wholeOf r (now (effects .exit)) ≡ edited (unlessRefused (dueEmpty (whole self (now (effects .entry))) case) (whole self (now (effects .entry))) (withKind (whole self (now (effects .entry))) case 0)) ⌝ }
+    pub fn empty(self, effects: &mut Effects, sums: &mut DeadSums, case: u8) -> AnsweredRest
+        requires { ⌜ InRange (whole self (now effects) (now sums)) ⌝ }
+        ensures { λ r. ⌜ wholeOf r (now (effects .exit)) (now (sums .exit)) ≡ edited (unlessRefused (dueEmpty (whole self (now (effects .entry)) (now (sums .entry))) case) (whole self (now (effects .entry)) (now (sums .entry))) (withKind (whole self (now (effects .entry)) (now (sums .entry))) case 0)) ⌝ }
     {
         let k = case as usize;
         let held = wire::byte(&self.kinds, k);
         let due = refusals::due_empty(case, held);
         if due == 0 {
+            let filled = self.kinds;
+            dead_sums::clear_case(effects, sums, &filled, k);
             let rest = self.with_kind(k, 0);
-            effects::clear_case(effects, k);
             return AnsweredRest {
                 answer: Answer::Accepted,
                 rest,
@@ -374,7 +407,7 @@ impl Rest {
 
     // Tag 05.
     pub fn replace_capacities(self, station: u8, n: u16, y: u16, z: u16) -> AnsweredRest
-        ensures { λ r. ⌜ ((effects : List ℤ) → wholeOf r effects ≡ edited (unlessRefused (dueCapacities station n y z) (whole self effects) (withCapacities (whole self effects) station n y z))) ⌝ }
+        ensures { λ r. ⌜ ((effects sums : List ℤ) → wholeOf r effects sums ≡ edited (unlessRefused (dueCapacities station n y z) (whole self effects sums) (withCapacities (whole self effects sums) station n y z))) ⌝ }
     {
         let due = refusals::due_capacities(station, n, y, z);
         if due == 0 {
@@ -392,7 +425,7 @@ impl Rest {
 
     // Tag 08.
     pub fn switch_ice(self, byte: u8) -> AnsweredRest
-        ensures { λ r. ⌜ ((effects : List ℤ) → wholeOf r effects ≡ edited (unlessRefused (dueSwitch byte) (whole self effects) (withSwitch (whole self effects) byte))) ⌝ }
+        ensures { λ r. ⌜ ((effects sums : List ℤ) → wholeOf r effects sums ≡ edited (unlessRefused (dueSwitch byte) (whole self effects sums) (withSwitch (whole self effects sums) byte))) ⌝ }
     {
         let settings = self.settings;
         let due = refusals::due_switch(byte);
@@ -401,7 +434,7 @@ impl Rest {
 
     // Tag 09.
     pub fn set_straining(self, factor: u16) -> AnsweredRest
-        ensures { λ r. ⌜ ((effects : List ℤ) → wholeOf r effects ≡ edited (unlessRefused (dueFactor (whole self effects) factor) (whole self effects) (withStraining (whole self effects) factor))) ⌝ }
+        ensures { λ r. ⌜ ((effects sums : List ℤ) → wholeOf r effects sums ≡ edited (unlessRefused (dueFactor (whole self effects sums) factor) (whole self effects sums) (withStraining (whole self effects sums) factor))) ⌝ }
     {
         let settings = self.settings;
         let due = refusals::due_straining(settings.method, factor);
@@ -409,9 +442,9 @@ impl Rest {
     }
 
     // Tag 06.
-    pub fn look_extremes(self, effects: &[i16], station: u8, component: u8) -> Answer
-        requires { ⌜ InRange (whole self (now effects)) ⌝ }
-        ensures { λ r. ⌜ (r ≡ unlessDue (dueExtremes station component) (Answer.Extremes (extremesAt (whole self (now (effects .entry))) station component))) × ExtremesPromised (whole self (now (effects .entry))) station component r ⌝ }
+    pub fn look_extremes(self, effects: &[i16], sums: &[i64], station: u8, component: u8) -> Answer
+        requires { ⌜ InRange (whole self (now effects) (now sums)) ⌝ }
+        ensures { λ r. ⌜ (r ≡ unlessDue (dueExtremes station component) (Answer.Extremes (extremesAt (whole self (now (effects .entry)) (now (sums .entry))) station component))) × ExtremesPromised (whole self (now (effects .entry)) (now (sums .entry))) station component r ⌝ }
     {
         let due = refusals::due_extremes(station, component);
         if due == 0 {
@@ -419,10 +452,13 @@ impl Rest {
             let t = station as usize;
             let from = t * STATION_EFFECTS;
             let to = from + STATION_EFFECTS;
+            let first = t * STATION_SUMS;
+            let last = first + STATION_SUMS;
             let x = station::extremes_of(
                 self.settings,
                 &kinds,
                 &effects[from..to],
+                &sums[first..last],
                 component as usize,
             );
             return Answer::Extremes(x);
@@ -431,9 +467,9 @@ impl Rest {
     }
 
     // Tag 07.
-    pub fn look_utilisation(self, effects: &[i16], station: u8) -> Answer
-        requires { ⌜ InRange (whole self (now effects)) ⌝ }
-        ensures { λ r. ⌜ (r ≡ unlessDue (dueUtilisation (whole self (now (effects .entry))) station) (Answer.Utilisation (utilisationAt (whole self (now (effects .entry))) station))) × UtilisationPromised (whole self (now (effects .entry))) station r ⌝ }
+    pub fn look_utilisation(self, effects: &[i16], sums: &[i64], station: u8) -> Answer
+        requires { ⌜ InRange (whole self (now effects) (now sums)) ⌝ }
+        ensures { λ r. ⌜ (r ≡ unlessDue (dueUtilisation (whole self (now (effects .entry)) (now (sums .entry))) station) (Answer.Utilisation (utilisationAt (whole self (now (effects .entry)) (now (sums .entry))) station))) × UtilisationPromised (whole self (now (effects .entry)) (now (sums .entry))) station r ⌝ }
     {
         let kinds = self.kinds;
         let capacities = self.capacities;
@@ -444,12 +480,20 @@ impl Rest {
         if due == 0 {
             let from = t * STATION_EFFECTS;
             let to = from + STATION_EFFECTS;
+            let start = t * STATION_SUMS;
+            let end = start + STATION_SUMS;
             let p = Capacities {
                 n: capacities[at],
                 y: capacities[at + 1],
                 z: capacities[at + 2],
             };
-            let x = station::utilisation_of(self.settings, &kinds, &effects[from..to], p);
+            let x = station::utilisation_of(
+                self.settings,
+                &kinds,
+                &effects[from..to],
+                &sums[start..end],
+                p,
+            );
             return Answer::Utilisation(x);
         }
         Answer::Refused(due)

@@ -50,15 +50,15 @@ next-parts ended room f e =
     let y = and-parts (ltb 0 (length f)) (ended || readyOf f) (x .0) in
     (ltb-true 0 (length f) (y .0), leb-true answerRoom room (x .1))
 
-pub progressed-none : (p : Progress) (effects : List ℤ) (o : List ℕ) (more : Bool) →
-    Progressed [] p effects o (record { rest = p .rest; consumed = p .consumed; written = p .written; more = more; stop = p .stop }) effects o
+pub progressed-none : (p : Progress) (effects sums : List ℤ) (o : List ℕ) (more : Bool) →
+    Progressed [] p effects sums o (record { rest = p .rest; consumed = p .consumed; written = p .written; more = more; stop = p .stop }) effects sums o
 unfolding sheetAfter spanOf answersTo bytesOf anyLast
-progressed-none p effects o more = record { sheet = refl; consumed = omega arith; written = omega arith; output = refl; stop = sym (or-false (p .stop)) }
+progressed-none p effects sums o more = record { sheet = refl; consumed = omega arith; written = omega arith; output = refl; stop = sym (or-false (p .stop)) }
 
-pub progressed-join : (fs gs : List (List ℕ)) {p q r : Progress} {e₀ e₁ e₂ : List ℤ} {o₀ o₁ o₂ : List ℕ} →
-    Progressed fs p e₀ o₀ q e₁ o₁ → Progressed gs q e₁ o₁ r e₂ o₂ → Progressed (fs ++ gs) p e₀ o₀ r e₂ o₂
-progressed-join fs gs {p} {q} {r} {e₀} {e₁} {o₀ = o₀} x y =
-    let s = whole (p .rest) e₀ in
+pub progressed-join : (fs gs : List (List ℕ)) {p q r : Progress} {e₀ u₀ e₁ u₁ e₂ u₂ : List ℤ} {o₀ o₁ o₂ : List ℕ} →
+    Progressed fs p e₀ u₀ o₀ q e₁ u₁ o₁ → Progressed gs q e₁ u₁ o₁ r e₂ u₂ o₂ → Progressed (fs ++ gs) p e₀ u₀ o₀ r e₂ u₂ o₂
+progressed-join fs gs {p} {q} {r} {e₀} {u₀} {o₀ = o₀} x y =
+    let s = whole (p .rest) e₀ u₀ in
     let v = bytesOf (answersTo fs s) in
     let w = bytesOf (answersTo gs (sheetAfter fs s)) in
     let b : bytesOf (answersTo (fs ++ gs) s) ≡ v ++ w = rw answers-join (bytes-join (answersTo fs s) (answersTo gs (sheetAfter fs s))) in
@@ -76,26 +76,26 @@ progressed-join fs gs {p} {q} {r} {e₀} {e₁} {o₀ = o₀} x y =
     }
 
 -- what one step ensures
-abbrev pub Stepped : Bool → Progress → List ℤ → List ℕ → List ℕ → Progress → List ℤ → List ℕ → Type 0
-Stepped ended p effects input o r effects′ o′ =
-    Progressed (nextOf ended (length o - p .written) (drop (p .consumed) input)) p effects o r effects′ o′
-    × (r .more ≡ goesOn ended (length o - p .written) (drop (p .consumed) input) (whole (p .rest) effects))
+abbrev pub Stepped : Bool → Progress → List ℤ → List ℤ → List ℕ → List ℕ → Progress → List ℤ → List ℤ → List ℕ → Type 0
+Stepped ended p effects sums input o r effects′ sums′ o′ =
+    Progressed (nextOf ended (length o - p .written) (drop (p .consumed) input)) p effects sums o r effects′ sums′ o′
+    × (r .more ≡ goesOn ended (length o - p .written) (drop (p .consumed) input) (whole (p .rest) effects sums))
 
-module _ (p : Progress) (effects : List ℤ) (input o : List ℕ) where
+module _ (p : Progress) (effects sums : List ℤ) (input o : List ℕ) where
   -- the bytes from the next field on
   abbrev pub following : List ℕ
   following = drop (p .consumed) input
 
-  pub progressed-one : p .written + answerRoom ≤ length o → {r : ReadRest} {effects′ : List ℤ} {part : List ℕ} {last : Bool} →
-      FieldRead (take (length input - p .consumed) following) (take (length o - p .written) (drop (p .written) o)) (whole (p .rest) effects)
-      (wholeReading r effects′) part → last ≡ lastOf (r .answer) →
-      Progressed (following ∷ []) p effects o
+  pub progressed-one : p .written + answerRoom ≤ length o → {r : ReadRest} {effects′ sums′ : List ℤ} {part : List ℕ} {last : Bool} →
+      FieldRead (take (length input - p .consumed) following) (take (length o - p .written) (drop (p .written) o)) (whole (p .rest) effects sums)
+      (wholeReading r effects′ sums′) part → last ≡ lastOf (r .answer) →
+      Progressed (following ∷ []) p effects sums o
       (record { rest = r .rest; consumed = p .consumed + r .consumed; written = p .written + r .written; more = not last; stop = p .stop || last })
-      effects′ (putMid (p .written) (length o - p .written) o part)
-      × (not last ≡ not (lastOf (readField following answerRoom (whole (p .rest) effects) .answer)))
+      effects′ sums′ (putMid (p .written) (length o - p .written) o part)
+      × (not last ≡ not (lastOf (readField following answerRoom (whole (p .rest) effects sums) .answer)))
   unfolding sheetAfter spanOf answersTo bytesOf anyLast
   progressed-one h f l =
-      let s = whole (p .rest) effects in
+      let s = whole (p .rest) effects sums in
       let x = read-at input o (p .consumed) (p .written) s h f in
       let b = append-nil (answerBytes (readField following answerRoom s .answer)) in
       let e = l ∙ ap lastOf (x .answer) in (
@@ -118,17 +118,17 @@ module _ (p : Progress) (effects : List ℤ) (input o : List ℕ) where
         let x = next-parts ended (length o - p .written) following (sym now-is ∙ e) in
         omega (arith, x .1)
 
-    pub step-taken : t ≡ true → {r : Progress} {effects′ : List ℤ} {o′ : List ℕ} →
-        Progressed (following ∷ []) p effects o r effects′ o′ × (r .more ≡ not (lastOf (readField following answerRoom (whole (p .rest) effects) .answer))) →
-        Stepped ended p effects input o r effects′ o′
+    pub step-taken : t ≡ true → {r : Progress} {effects′ sums′ : List ℤ} {o′ : List ℕ} →
+        Progressed (following ∷ []) p effects sums o r effects′ sums′ o′ × (r .more ≡ not (lastOf (readField following answerRoom (whole (p .rest) effects sums) .answer))) →
+        Stepped ended p effects sums input o r effects′ sums′ o′
     unfolding goesOn
     step-taken e x =
         let i : isNext ended (length o - p .written) following ≡ true = sym now-is ∙ e in
         (rw i (x .0), rw i (x .1))
 
     pub step-left : t ≡ false →
-        Stepped ended p effects input o (record { rest = p .rest; consumed = p .consumed; written = p .written; more = false; stop = p .stop }) effects o
+        Stepped ended p effects sums input o (record { rest = p .rest; consumed = p .consumed; written = p .written; more = false; stop = p .stop }) effects sums o
     unfolding goesOn
     step-left e =
         let i : isNext ended (length o - p .written) following ≡ false = sym now-is ∙ e in
-        (rw i (progressed-none p effects o false), rw i)
+        (rw i (progressed-none p effects sums o false), rw i)

@@ -23,14 +23,14 @@ use Rattle.stream.specs.declared.Progress.{Progress}
 use Rattle.stream.specs.Answering.{isNext, goesOn, answeredOf, Progressed, Within}
 use Rattle.stream.proofs.Fields.{Stepped, next-parts, progressed-none, progressed-join}
 
-pub record Going (ended : Bool) (input : List ℕ) (p₀ : Progress) (effects₀ : List ℤ) (o₀ : List ℕ) (p : Progress) (effects : List ℤ) (o : List ℕ) : Type 0 where
+pub record Going (ended : Bool) (input : List ℕ) (p₀ : Progress) (effects₀ sums₀ : List ℤ) (o₀ : List ℕ) (p : Progress) (effects sums : List ℤ) (o : List ℕ) : Type 0 where
   pub done : List (List ℕ)
   pub next : List (List ℕ)
-  pub answered : Progressed done p₀ effects₀ o₀ p effects o
+  pub answered : Progressed done p₀ effects₀ sums₀ o₀ p effects sums o
   pub left : Left input (p .consumed) next
-  pub all : answeredOf ended (length o₀) (fieldsOf input) (whole (p₀ .rest) effects₀)
-      ≡ done ++ cond (p .more) (answeredOf ended (length o₀ - p .written) next (whole (p .rest) effects)) []
-  pub within : Within (whole (p .rest) effects) (p .consumed) (p .written) input o₀ o
+  pub all : answeredOf ended (length o₀) (fieldsOf input) (whole (p₀ .rest) effects₀ sums₀)
+      ≡ done ++ cond (p .more) (answeredOf ended (length o₀ - p .written) next (whole (p .rest) effects sums)) []
+  pub within : Within (whole (p .rest) effects sums) (p .consumed) (p .written) input o₀ o
 
 -- the steps of a loop that goes on, at most
 abbrev pub stepsLeft : Bool → ℕ → ℕ
@@ -45,9 +45,9 @@ one-more : (done rest : List (List ℕ)) (f : List ℕ) (last : Bool) → done +
 one-more done rest f true = sym (append-nil (done ++ (f ∷ [])))
 one-more done rest f false = sym (append-assoc done (f ∷ []) rest)
 
-module _ {ended : Bool} {input : List ℕ} {p₀ : Progress} {effects₀ : List ℤ} {o₀ : List ℕ} {p : Progress} {effects : List ℤ} {o : List ℕ}
-    (h : Going ended input p₀ effects₀ o₀ p effects o) (m : p .more ≡ true)
-    {r : Progress} {effects′ : List ℤ} {o′ : List ℕ} (s : Stepped ended p effects input o r effects′ o′) where
+module _ {ended : Bool} {input : List ℕ} {p₀ : Progress} {effects₀ sums₀ : List ℤ} {o₀ : List ℕ} {p : Progress} {effects sums : List ℤ} {o : List ℕ}
+    (h : Going ended input p₀ effects₀ sums₀ o₀ p effects sums o) (m : p .more ≡ true)
+    {r : Progress} {effects′ sums′ : List ℤ} {o′ : List ℕ} (s : Stepped ended p effects sums input o r effects′ sums′ o′) where
   abbrev f : List ℕ
   f = drop (p .consumed) input
 
@@ -55,13 +55,13 @@ module _ {ended : Bool} {input : List ℕ} {p₀ : Progress} {effects₀ : List 
   room = length o₀ - p .written
 
   abbrev sheet : Sheet
-  sheet = whole (p .rest) effects
+  sheet = whole (p .rest) effects sums
 
   abbrev answer : Bool
   answer = lastOf (readField f answerRoom sheet .answer)
 
-  within-next : (gs : List (List ℕ)) → Progressed gs p effects o r effects′ o′ → r .consumed ≤ length input → answerRoom * length gs ≤ room →
-      Within (whole (r .rest) effects′) (r .consumed) (r .written) input o₀ o′
+  within-next : (gs : List (List ℕ)) → Progressed gs p effects sums o r effects′ sums′ o′ → r .consumed ≤ length input → answerRoom * length gs ≤ room →
+      Within (whole (r .rest) effects′ sums′) (r .consumed) (r .written) input o₀ o′
   within-next gs a c l =
       let w = h .within in
       let n = a .written in
@@ -81,14 +81,14 @@ module _ {ended : Bool} {input : List ℕ} {p₀ : Progress} {effects₀ : List 
         let l = length-drop (p .consumed) input in
         omega arith
 
-    taken : Progressed (f ∷ []) p effects o r effects′ o′
+    taken : Progressed (f ∷ []) p effects sums o r effects′ sums′ o′
     taken = rw (h .within .same, t) at (s .0)
 
     more-is : r .more ≡ not answer
     unfolding goesOn
     more-is = rw (h .within .same, t) at (s .1)
 
-    going-yes : Next input (p .consumed) (h .next) → Going ended input p₀ effects₀ o₀ r effects′ o′
+    going-yes : Next input (p .consumed) (h .next) → Going ended input p₀ effects₀ sums₀ o₀ r effects′ sums′ o′
     unfolding answeredOf sheetAfter spanOf answersTo bytesOf
     going-yes x =
         let a = taken in
@@ -117,7 +117,7 @@ module _ {ended : Bool} {input : List ℕ} {p₀ : Progress} {effects₀ : List 
         fewer (r .more) (length input - r .consumed) (length input - p .consumed) (omega arith)
 
   module _ (t : isNext ended room f ≡ false) where
-    none-taken : Progressed [] p effects o r effects′ o′
+    none-taken : Progressed [] p effects sums o r effects′ sums′ o′
     none-taken = rw (h .within .same, t) at (s .0)
 
     no-more : r .more ≡ false
@@ -129,7 +129,7 @@ module _ {ended : Bool} {input : List ℕ} {p₀ : Progress} {effects₀ : List 
     none-next =
         ⊎-elim (λ l. rw (left-next (h .left) l .split, t)) (λ l. rw (left-none (h .left) l)) (lt-or-ge (p .consumed) (length input))
 
-    going-no : Going ended input p₀ effects₀ o₀ r effects′ o′
+    going-no : Going ended input p₀ effects₀ sums₀ o₀ r effects′ sums′ o′
     unfolding spanOf
     going-no =
         let a = none-taken in
@@ -147,26 +147,26 @@ module _ {ended : Bool} {input : List ℕ} {p₀ : Progress} {effects₀ : List 
     fewer-no : stepsLeft (r .more) (length input - r .consumed) < stepsLeft true (length input - p .consumed)
     fewer-no = rw no-more (omega arith)
 
-  pub going-next : Going ended input p₀ effects₀ o₀ r effects′ o′
+  pub going-next : Going ended input p₀ effects₀ sums₀ o₀ r effects′ sums′ o′
   going-next = ⊎-elim (λ t. going-yes t (left-next (h .left) (before-end t))) (λ t. going-no t) (either (isNext ended room f))
 
   pub going-fewer : stepsLeft (r .more) (length input - r .consumed) < stepsLeft (p .more) (length input - p .consumed)
   going-fewer = rw m (⊎-elim (λ t. fewer-yes t) (λ t. fewer-no t) (either (isNext ended room f)))
 
-pub going-start : (ended : Bool) (input : List ℕ) (p : Progress) (effects : List ℤ) (o : List ℕ) → p .consumed ≡ 0 → p .written ≡ 0 → p .more ≡ true →
-    InRange (whole (p .rest) effects) → answerRoom ≤ length o → Going ended input p effects o p effects o
-going-start ended input p effects o c w m h g = record {
+pub going-start : (ended : Bool) (input : List ℕ) (p : Progress) (effects sums : List ℤ) (o : List ℕ) → p .consumed ≡ 0 → p .written ≡ 0 → p .more ≡ true →
+    InRange (whole (p .rest) effects sums) → answerRoom ≤ length o → Going ended input p effects sums o p effects sums o
+going-start ended input p effects sums o c w m h g = record {
   done = [];
   next = fieldsOf input;
-  answered = progressed-none p effects o (p .more);
+  answered = progressed-none p effects sums o (p .more);
   left = rw c (left-all input);
   all = let z : length o - 0 ≡ length o = omega arith in rw (m, w, z);
   within = record { in-range = h; consumed = omega arith; written = omega arith; room = g; same = refl };
 }
 
-pub going-end : {ended : Bool} {input : List ℕ} {p₀ : Progress} {effects₀ : List ℤ} {o₀ : List ℕ} {p : Progress} {effects : List ℤ} {o : List ℕ} →
-    Going ended input p₀ effects₀ o₀ p effects o → p .more ≡ false →
-    Progressed (answeredOf ended (length o₀) (fieldsOf input) (whole (p₀ .rest) effects₀)) p₀ effects₀ o₀ p effects o
+pub going-end : {ended : Bool} {input : List ℕ} {p₀ : Progress} {effects₀ sums₀ : List ℤ} {o₀ : List ℕ} {p : Progress} {effects sums : List ℤ} {o : List ℕ} →
+    Going ended input p₀ effects₀ sums₀ o₀ p effects sums o → p .more ≡ false →
+    Progressed (answeredOf ended (length o₀) (fieldsOf input) (whole (p₀ .rest) effects₀ sums₀)) p₀ effects₀ sums₀ o₀ p effects sums o
 going-end h e =
     let a = rw (e, append-nil) at (h .all) in
     rw a (h .answered)

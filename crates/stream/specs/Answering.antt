@@ -45,12 +45,12 @@ anyLast (a ∷ rest) = lastOf a || anyLast rest
 
 -- from p the fields fs are answered, one after the other: the sheet after them, the bytes consumed, and the output with their answers
 -- after those that wait there
-pub record Progressed (fs : List (List ℕ)) (p : Progress) (effects : List ℤ) (o : List ℕ) (r : Progress) (effects′ : List ℤ) (o′ : List ℕ) : Type 0 where
-  pub sheet : whole (r .rest) effects′ ≡ sheetAfter fs (whole (p .rest) effects)
+pub record Progressed (fs : List (List ℕ)) (p : Progress) (effects sums : List ℤ) (o : List ℕ) (r : Progress) (effects′ sums′ : List ℤ) (o′ : List ℕ) : Type 0 where
+  pub sheet : whole (r .rest) effects′ sums′ ≡ sheetAfter fs (whole (p .rest) effects sums)
   pub consumed : r .consumed ≡ p .consumed + spanOf fs
-  pub written : r .written ≡ p .written + length (bytesOf (answersTo fs (whole (p .rest) effects)))
-  pub output : o′ ≡ sets o (p .written) (bytesOf (answersTo fs (whole (p .rest) effects)))
-  pub stop : r .stop ≡ (p .stop || anyLast (answersTo fs (whole (p .rest) effects)))
+  pub written : r .written ≡ p .written + length (bytesOf (answersTo fs (whole (p .rest) effects sums)))
+  pub output : o′ ≡ sets o (p .written) (bytesOf (answersTo fs (whole (p .rest) effects sums)))
+  pub stop : r .stop ≡ (p .stop || anyLast (answersTo fs (whole (p .rest) effects sums)))
 
 abbrev pub begun : Rest → Progress
 begun rest = record { rest = rest; consumed = 0; written = 0; more = true; stop = false }

@@ -11,7 +11,7 @@ use Rattle.integers.proofs.Sums.{when-le, sum-most, sum-le-at, most-le}
 use Rattle.standard.specs.Combination.{caseCount}
 use Rattle.envelope.specs.Range.{effectMost}
 use Rattle.sums.specs.declared.Sides.{Sides}
-use Rattle.sums.specs.Sums.{partOf, joinedBy, heldBy, among, sidesBy, sidesIn, sidesWith, SidesInRange, SidesRoom}
+use Rattle.sums.specs.Sums.{partOf, joinedBy, heldBy, among, sidesBy, splitOf, sidesIn, sidesWith, SidesInRange, SidesRoom}
 
 -- ---- what is held
 held-none : (t : Bool) (g : ℕ → ℕ) → 0 ≡ heldBy t 0 g
@@ -41,6 +41,16 @@ part-le (suc t) x = omega (arith, abs-parts x)
 -- a number below zero gives back its size
 down-back : (n : ℕ) → down (negℤ (pos n)) ≡ n
 down-back n = neg-down (pos n)
+
+-- ---- a total
+pub split-in-range : (total : ℤ) → natAbs total < 2 ^ 63 → SidesInRange (splitOf total)
+split-in-range total l =
+    record {
+      above = refl;
+      below = ap (λ (m : ℕ). negℤ (pos m)) (sym (down-back (down total)));
+      above-fits = omega (arith, abs-parts total);
+      below-fits = omega (arith, abs-parts total, abs-negated (pos (down total)));
+    }
 
 -- ---- one case more
 added-below : (a b : ℤ) → a ≡ negℤ (pos (down a)) → a +ℤ negℤ (pos (down b)) ≡ negℤ (pos (down a + down b))

@@ -13,7 +13,8 @@ use Rattle.standard.specs.declared.Class.{Class}
 use Rattle.standard.specs.declared.Class.the-variants.{Always, Together, Subset, OneOf, Unknown}
 use Rattle.standard.specs.Kinds.{classOf, kindCount, fluid}
 use Rattle.standard.specs.Combination.{caseCount}
-use Rattle.envelope.specs.Range.{effectMost}
+use Rattle.optimum.specs.Row.{totalOf}
+use Rattle.envelope.specs.Range.{kindOf, effectOf, componentCount, effectMost}
 use Rattle.sums.specs.declared.Sides.{Sides}
 
 -- the parts of an effect: 0 above zero, 1 below
@@ -54,6 +55,14 @@ sidesBy above below = record { above = pos above; below = negℤ (pos below) }
 abbrev pub sidesIn : Bool → (ℕ → Bool) → (ℕ → ℤ) → ℕ → Sides
 sidesIn compared p e n = sidesBy (heldBy compared n (among p (λ k. up (e k)))) (heldBy compared n (among p (λ k. down (e k))))
 
+-- the sides of a total
+abbrev pub splitOf : ℤ → Sides
+splitOf total = sidesBy (up total) (down total)
+
+-- the kinds whose totals are held: 1 and 2, D and F
+abbrev pub totalCount : ℕ
+totalCount = 2
+
 -- one case more
 abbrev pub sidesWith : Bool → Sides → ℤ → Sides
 sidesWith compared s x = sidesBy (joinedBy compared (up (s .above)) (up x)) (joinedBy compared (down (s .below)) (down x))
@@ -85,15 +94,35 @@ fluidActs sums over under = ltb (heldAt sums fluid under) (heldAt sums fluid ove
 abbrev pub sidesPut : List ℕ → ℕ → Sides → List ℕ
 sidesPut sums j s = set (set sums (j * 2) (up (s .above))) (j * 2 + 1) (down (s .below))
 
--- the sums of the kinds below m, from the sets of the cases of each kind
-pub record SumsOf (sums places : List ℕ) (e : ℕ → ℤ) (m : ℕ) : Type 0 where
+-- the sides of the totals of D and F
+abbrev pub totalsPut : List ℕ → (ℕ → ℤ) → List ℕ
+totalsPut sums totals = sidesPut (sidesPut sums 1 (splitOf (totals 0))) fluid (splitOf (totals 1))
+
+-- The sums of the kinds below m. Of D and F the sides of a total are held, since all their cases act or none; the total is given. Of the
+-- others the sums come from the sets of the cases of each kind.
+pub record SumsOf (sums : List ℕ) (totals : ℕ → ℤ) (places : List ℕ) (e : ℕ → ℤ) (m : ℕ) : Type 0 where
   pub long : length sums ≡ sumCount
-  pub held : (j t : ℕ) → 0 < j → j < m → t < 2 → heldAt sums j t ≡ heldOf j caseCount (among (has (getD places j 0)) (λ k. partOf t (e k)))
+  pub total : (j t : ℕ) → j < totalCount → t < 2 → heldAt sums (suc j) t ≡ partOf t (totals j)
+  pub held : (j t : ℕ) → totalCount < j → j < m → t < 2 → heldAt sums j t ≡ heldOf j caseCount (among (has (getD places j 0)) (λ k. partOf t (e k)))
 
 -- the same from the kinds of the cases
 pub record Summed (sums : List ℕ) (kind : ℕ → ℕ) (e : ℕ → ℤ) : Type 0 where
   pub long : length sums ≡ sumCount
-  pub held : (j t : ℕ) → 0 < j → j < kindCount → t < 2 → heldAt sums j t ≡ heldOf j caseCount (ofKind kind (λ k. partOf t (e k)) j)
+  pub total : (j t : ℕ) → j < totalCount → t < 2 → heldAt sums (suc j) t ≡ partOf t (totalOf kind e (suc j))
+  pub held : (j t : ℕ) → totalCount < j → j < kindCount → t < 2 → heldAt sums j t ≡ heldOf j caseCount (ofKind kind (λ k. partOf t (e k)) j)
+
+-- the totals that are held are those of the cases
+pub record TotalsOf (totals : ℕ → ℤ) (kind : ℕ → ℕ) (e : ℕ → ℤ) : Type 0 where
+  pub each : (j : ℕ) → j < totalCount → totals j ≡ totalOf kind e (suc j)
+
+-- on each component
+pub record AllTotalsOf (totals : ℕ → ℕ → ℤ) (kind : ℕ → ℕ) (effect : ℕ → ℕ → ℤ) : Type 0 where
+  pub on : (c : ℕ) → c < componentCount → TotalsOf (λ j. totals j c) kind (λ k. effect k c)
+
+-- the totals of a station as they are held: three of D, then three of F
+pub record TotalsHeld (totals : List ℤ) (kinds : List ℕ) (effects : List ℤ) : Type 0 where
+  pub long : length totals ≡ totalCount * componentCount
+  pub are : AllTotalsOf (effectOf totals) (kindOf kinds) (effectOf effects)
 
 -- sums of the weighed effects of all cases
 pub record SumsInRange (sums : List ℕ) : Type 0 where

@@ -1,12 +1,13 @@
 ghost use mathlib.Core.Path.{_≡_};
 ghost use Prim.Native.Nat.{_<_, _^_};
 ghost use lib.ListN.{length};
+ghost use lib.IntN.{natAbs};
 ghost use Rattle.integers.specs.Sets.{has};
 ghost use Rattle.standard.specs.Combination.{caseCount};
 ghost use Rattle.standard.specs.Kinds.{classOf, kindCount};
-ghost use Rattle.envelope.specs.Range.{kindOf, effectOf, KindsInRange, EffectsInRange};
+ghost use Rattle.envelope.specs.Range.{kindOf, effectOf, KindsInRange, EffectsInRange, TotalsInRange};
 ghost use Rattle.envelope.specs.Places.{Places, PlacesInRange};
-ghost use Rattle.sums.specs.Sums.{alone, sidesWith, SidesRoom, SidesInRange, sidesIn, sidesPut, sumCount, SumsOf, fluidActs};
+ghost use Rattle.sums.specs.Sums.{alone, splitOf, totalsPut, sidesWith, SidesRoom, SidesInRange, sidesIn, sidesPut, sumCount, SumsOf, fluidActs};
 use standard::CASES;
 use standard::KINDS;
 
@@ -15,8 +16,10 @@ pub const SUMS: usize = KINDS * 2;
 
 pub type Sums = [u64; SUMS];
 
-// The kind F.
-const FLUID: usize = 2;
+// The kinds D and F.
+pub const DEAD: usize = 1;
+
+pub const FLUID: usize = 2;
 
 // What the effects of the cases of a kind make above zero and, with its sign, below.
 pub struct Sides {
@@ -96,13 +99,36 @@ pub fn put_sides(sums: &mut [u64], kind: usize, x: Sides)
     sums[at + 1] = integers::unsigned(integers::negated(x.below));
 }
 
-// One pass over the cases: the sums of each kind on a component, for both signs.
-pub fn sums_of(places: &[u64], effects: &[i16], component: usize) -> Sums
-    requires { ⌜ PlacesInRange (now places) × EffectsInRange (now effects) × (component < 3) ⌝ }
-    ensures { λ r. ⌜ SumsOf r (now (places .entry)) (λ k. effectOf (now (effects .entry)) k component) kindCount ⌝ }
+// The sides of a total.
+pub fn split(total: i64) -> Sides
+    requires { ⌜ natAbs total < 2 ^ 63 ⌝ }
+    ensures { λ r. ⌜ r ≡ splitOf total ⌝ }
+{
+    let above = integers::above_zero(total);
+    let below = integers::below_zero(total);
+    Sides { above, below }
+}
+
+// The totals of D and F on a component.
+fn put_totals(sums: &mut [u64], totals: &[i64], component: usize)
+    requires { ⌜ (length (now sums) ≡ sumCount) × TotalsInRange (now totals) × (component < 3) ⌝ }
+    ensures { λ _. ⌜ now (sums .exit) ≡ totalsPut (now (sums .entry)) (λ j. effectOf (now (totals .entry)) j component) ⌝ }
+{
+    let second = 3 + component;
+    let dead = split(totals[component]);
+    let fluid = split(totals[second]);
+    put_sides(sums, DEAD, dead);
+    put_sides(sums, FLUID, fluid);
+}
+
+// The sums of each kind on a component, for both signs: from the totals of D and F, and from one pass over the cases of the others.
+pub fn sums_of(totals: &[i64], places: &[u64], effects: &[i16], component: usize) -> Sums
+    requires { ⌜ TotalsInRange (now totals) × PlacesInRange (now places) × EffectsInRange (now effects) × (component < 3) ⌝ }
+    ensures { λ r. ⌜ SumsOf r (λ j. effectOf (now (totals .entry)) j component) (now (places .entry)) (λ k. effectOf (now (effects .entry)) k component) kindCount ⌝ }
 {
     let mut sums = [0u64; SUMS];
-    let mut kind: usize = 1;
+    put_totals(&mut sums, totals, component);
+    let mut kind: usize = FLUID + 1;
     while kind < KINDS {
         let x = sides_of(acts_alone(kind), places[kind], effects, component);
         put_sides(&mut sums, kind, x);

@@ -1,4 +1,5 @@
 // The table of tags: what a field of each tag does to the sheet, and its answer.
+use dead_sums::DeadSums;
 use effects::Effects;
 use sheet::AnsweredRest;
 use sheet::Rest;
@@ -9,25 +10,32 @@ ghost use Rattle.sheet.specs.Range.{InRange};
 ghost use Rattle.tags.specs.Tags.{unknownTag};
 ghost use Rattle.tags.specs.Run.{runOf};
 
-// A field of known tag and right length, on a sheet whose effects are lent.
-pub fn run(rest: Rest, effects: &mut Effects, tag: u8, body: &[u8]) -> AnsweredRest
-    requires { ⌜ InRange (whole rest (now effects)) × (unknownTag tag ≡ false) ⌝ }
-    ensures { λ r. ⌜ wholeOf r (now (effects .exit)) ≡ runOf (whole rest (now (effects .entry))) tag (now (body .entry)) ⌝ }
+// A field of known tag and right length, on a sheet whose effects and sums are lent.
+pub fn run(
+    rest: Rest,
+    effects: &mut Effects,
+    sums: &mut DeadSums,
+    tag: u8,
+    body: &[u8],
+) -> AnsweredRest
+    requires { ⌜ InRange (whole rest (now effects) (now sums)) × (unknownTag tag ≡ false) ⌝ }
+    ensures { λ r. ⌜ wholeOf r (now (effects .exit)) (now (sums .exit)) ≡ runOf (whole rest (now (effects .entry)) (now (sums .entry))) tag (now (body .entry)) ⌝ }
 {
     let b0 = wire::byte(body, 0);
     let b1 = wire::byte(body, 1);
     match tag {
-        1 => rest.restart(effects, b0, b1, wire::byte(body, 2)),
-        2 => rest.fill(effects, b0, b1),
+        1 => rest.restart(effects, sums, b0, b1, wire::byte(body, 2)),
+        2 => rest.fill(b0, b1),
         3 => rest.replace_effects(
             effects,
+            sums,
             b0,
             b1,
             wire::word(body, 2),
             wire::word(body, 4),
             wire::word(body, 6),
         ),
-        4 => rest.empty(effects, b0),
+        4 => rest.empty(effects, sums, b0),
         5 => rest.replace_capacities(
             b0,
             wire::word(body, 1),
@@ -35,11 +43,11 @@ pub fn run(rest: Rest, effects: &mut Effects, tag: u8, body: &[u8]) -> AnsweredR
             wire::word(body, 5),
         ),
         6 => {
-            let answer = rest.look_extremes(effects, b0, b1);
+            let answer = rest.look_extremes(effects, sums, b0, b1);
             AnsweredRest { answer, rest }
         }
         7 => {
-            let answer = rest.look_utilisation(effects, b0);
+            let answer = rest.look_utilisation(effects, sums, b0);
             AnsweredRest { answer, rest }
         }
         8 => rest.switch_ice(b0),

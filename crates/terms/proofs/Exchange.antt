@@ -1,6 +1,6 @@
 -- A row's value from the terms is its maximum over the cases, for the effects and for the effects negated; and the terms are in range.
 -- Assumes nothing.
-use Prim.Native.Nat.{ℕ, zero, suc, _+_, _*_, _<_, _≤_}
+use Prim.Native.Nat.{ℕ, zero, suc, _+_, _*_, _<_, _≤_, max}
 use native.Mathlib.Nat.{mul-le-mul-left, le-antisymm, le-trans}
 use native.Mathlib.Omega.{arith}
 use mathlib.Core.Path.{_≡_, refl, sym, ap, _∙_, subst}
@@ -11,7 +11,8 @@ use lib.Dec.{eqb, ltb}
 use lib.IntN.{ℤ, pos, negℤ, _+ℤ_, _-ℤ_, natAbs}
 use Rattle.integers.specs.Sums.{when, sum, most, up, down}
 use Rattle.integers.proofs.Signs.{eq-in, add-parts, one-part, abs-add, abs-parts, abs-negated, neg-up, neg-down}
-use Rattle.integers.proofs.Sums.{eqb-cases, ltb-cases, sum-same, sum-mono, sum-only, sum-swap, sum-times, sum-parts, sum-most, most-ge, most-le, most-same, most-times}
+use Rattle.integers.proofs.Sums.{eqb-cases, ltb-cases, sum-same, sum-mono, sum-only, sum-swap, sum-times, sum-most, most-ge, most-le, most-same, most-times}
+use Rattle.integers.proofs.Linear.{where-parts}
 use Rattle.standard.specs.declared.Settings.{Settings}
 use Rattle.standard.specs.declared.Class.{Class}
 use Rattle.standard.specs.declared.Class.the-variants.{Always, Together, Subset, OneOf, Unknown}
@@ -20,10 +21,11 @@ use Rattle.standard.specs.Rows.{factorOf}
 use Rattle.standard.specs.Combination.{caseCount}
 use Rattle.optimum.specs.Row.{greatestBy, leastBy, groupBy, isTogether, lowerOf, greatestOf, leastOf, groupOf, jointOf, totalOf, actsTogether, gainOf, rowMaximum, worthOf}
 use Rattle.envelope.specs.Range.{effectMost}
-use Rattle.sums.specs.Sums.{partOf, ofKind, alone, heldBy, heldOf, heldAt, fluidActs, Summed}
+use Rattle.sums.specs.Sums.{partOf, ofKind, alone, heldBy, heldOf, heldAt, totalCount, fluidActs, Summed}
 use Rattle.terms.specs.Value.{termsBy, termsOf, TermsInRange, valueOf}
 use Rattle.terms.proofs.Lines.{byGroup, excess, gainBy, lossBy, by-terms}
 use Rattle.sums.proofs.Held.{held-le, part-le}
+use Rattle.sums.proofs.Totals.{total-negated}
 
 module _ (n K : ℕ) (kind p : ℕ → ℕ) (below : (k : ℕ) → kind k < K) where
   -- a weighted sum over the kinds is one over the cases
@@ -144,6 +146,22 @@ module _ (n : ℕ) (kind p u : ℕ → ℕ) (h : Holds n kind p u) where
       go true e = ap (λ (x : ℕ). when (eqb (groupOf (suc j)) g) (f (suc j) * x)) (h (suc j) (omega arith) l ∙ rw e)
       go false e = rw (groupless (classOf (suc j)) e, ne-eqb groupCount g (λ q. omega arith))
 
+-- D and F stand in no group
+never-alone : (j : ℕ) → j < totalCount → alone (classOf (suc j)) ≡ false
+unfolding classOf
+never-alone zero l = refl
+never-alone (suc zero) l = refl
+never-alone (suc (suc j)) l = absurd (omega arith)
+
+-- a number from its parts, and from them exchanged
+of-parts : (z : ℤ) → pos (up z) +ℤ negℤ (pos (down z)) ≡ z
+of-parts z = eq-in (pos (up z) +ℤ negℤ (pos (down z))) z (omega (arith, add-parts (pos (up z)) (negℤ (pos (down z))), neg-up (pos (down z)), neg-down (pos (down z))))
+
+of-parts-negated : (z : ℤ) → pos (down z) +ℤ negℤ (pos (up z)) ≡ negℤ z
+of-parts-negated z =
+    eq-in (pos (down z) +ℤ negℤ (pos (up z))) (negℤ z)
+    (omega (arith, add-parts (pos (down z)) (negℤ (pos (up z))), neg-up (pos (up z)), neg-down (pos (up z)), neg-up z, neg-down z))
+
 less-excess : (a b : ℕ) → ltb b a ≡ ltb 0 (up (pos a +ℤ negℤ (pos b)))
 less-excess a b =
     let z : ℤ = pos a +ℤ negℤ (pos b) in
@@ -152,31 +170,27 @@ less-excess a b =
     (λ l. sym (lt-ltb 0 (up z) (omega (arith, parts))))
     (λ l. sym (le-ltb 0 (up z) (omega (arith, parts, one-part z))))
 
--- the value of a row from what is held above zero and below, and whether F acts
+counted : (kind : ℕ → ℕ) (j : ℕ) (part : ℕ → ℕ) → sum caseCount (ofKind kind part j) ≡ sum caseCount (λ k. when (eqb (kind k) j) 1 * part k)
+counted kind j part = sum-same caseCount (ofKind kind part j) (λ k. when (eqb (kind k) j) 1 * part k)
+    (λ k _. eqb-cases (kind k) j (λ t. when t (part k) ≡ when t 1 * part k) (λ _. omega arith) (λ _. omega arith))
+
+-- the value of a row from what is held above zero and below
 module _ (kind : ℕ → ℕ) (e : ℕ → ℤ) (below : (k : ℕ) → kind k < kindCount) (u d : ℕ → ℕ)
     (hu : Holds caseCount kind (λ k. up (e k)) u) (hd : Holds caseCount kind (λ k. down (e k)) d) where
   -- of a kind whose effects are added up, what is held is their total
   total-held : (j : ℕ) → 0 < j → j < kindCount → alone (classOf j) ≡ false → excess u d j ≡ totalOf kind e j
   unfolding totalOf
   total-held j p l a =
-      let above = summed caseCount kind (λ k. up (e k)) u hu j p l a ∙ counted j (λ k. up (e k)) in
-      let less = summed caseCount kind (λ k. down (e k)) d hd j p l a ∙ counted j (λ k. down (e k)) in
+      let above = summed caseCount kind (λ k. up (e k)) u hu j p l a ∙ counted kind j (λ k. up (e k)) in
+      let less = summed caseCount kind (λ k. down (e k)) d hd j p l a ∙ counted kind j (λ k. down (e k)) in
       eq-in (excess u d j) (totalOf kind e j)
       (omega (
         arith,
         add-parts (pos (u j)) (negℤ (pos (d j))),
         neg-up (pos (d j)),
         neg-down (pos (d j)),
-        sum-parts caseCount (λ k. when (eqb (kind k) j) 1) e,
+        where-parts caseCount (λ k. eqb (kind k) j) e,
       ))
-    where
-      counted : (j : ℕ) (part : ℕ → ℕ) → sum caseCount (ofKind kind part j) ≡ sum caseCount (λ k. when (eqb (kind k) j) 1 * part k)
-      counted j part = sum-same caseCount (ofKind kind part j) (λ k. when (eqb (kind k) j) 1 * part k)
-          (λ k _. eqb-cases (kind k) j (λ t. when t (part k) ≡ when t 1 * part k) (λ _. omega arith) (λ _. omega arith))
-
-  fluid-held : ltb (d fluid) (u fluid) ≡ actsTogether kind e fluid
-  unfolding classOf
-  fluid-held = less-excess (u fluid) (d fluid) ∙ ap (λ (z : ℤ). ltb 0 (up z)) (total-held fluid (omega arith) (omega arith) refl)
 
   held-value : (s : Settings) (row : ℕ) → valueOf s row (termsBy u d) ≡ rowMaximum s row kind e
   unfolding rowMaximum
@@ -210,30 +224,79 @@ module _ (kind : ℕ → ℕ) (e : ℕ → ℤ) (below : (k : ℕ) → kind k < 
           λ i. own i + sum-same groupCount (λ g. most kindCount (byGroup s row u g)) (λ g. most caseCount (worthOf s row kind e g)) led i
           + sum-same kindCount (λ j. jointOf s row j * up (excess u d j)) (λ j. jointOf s row j * up (totalOf kind e j)) joint i
 
-module _ (sums : List ℕ) (kind : ℕ → ℕ) (e : ℕ → ℤ) (below : (k : ℕ) → kind k < kindCount) (h : Summed sums kind e) where
-  holds : (t : ℕ) → t < 2 → Holds caseCount kind (λ k. partOf t (e k)) (λ j. heldAt sums j t)
+-- D and F come into the terms by their totals alone
+terms-agree : (u d u′ d′ : ℕ → ℕ) → ((j : ℕ) → j < totalCount → excess u d (suc j) ≡ excess u′ d′ (suc j)) →
+    ((j : ℕ) → totalCount < j → j < kindCount → (u j ≡ u′ j) × (d j ≡ d′ j)) → termsBy u d ≡ termsBy u′ d′
+unfolding termsBy
+terms-agree u d u′ d′ total other =
+    let at : (j : ℕ) → totalCount < j → j < kindCount → u j ≡ u′ j = λ j a b. other j a b .0 in
+    λ i. record {
+      dead = total 0 (omega arith) i;
+      fluid = pos (up (total 1 (omega arith) i));
+      earth = pos (at 3 (omega arith) (omega arith) i) +ℤ pos (at 4 (omega arith) (omega arith) i);
+      lowered = negℤ (pos (other 3 (omega arith) (omega arith) .1 i));
+      live = pos (at 5 (omega arith) (omega arith) i);
+      straining = pos (at 14 (omega arith) (omega arith) i);
+      roof = pos (max (at 6 (omega arith) (omega arith) i) (at 8 (omega arith) (omega arith) i));
+      snow = pos (at 7 (omega arith) (omega arith) i);
+      wind = pos (at 9 (omega arith) (omega arith) i);
+      quake = pos (at 10 (omega arith) (omega arith) i);
+      flood = pos (at 11 (omega arith) (omega arith) i);
+      ice = pos (at 12 (omega arith) (omega arith) i);
+      icewind = pos (at 13 (omega arith) (omega arith) i);
+    }
+
+-- what the terms are made from: the totals of D and F, and what is held of the other kinds above zero and below
+record Terms-from (kind : ℕ → ℕ) (e : ℕ → ℤ) (u d : ℕ → ℕ) : Type 0 where
+  total : (j : ℕ) → j < totalCount → excess u d (suc j) ≡ totalOf kind e (suc j)
+  others : (j : ℕ) → totalCount < j → j < kindCount →
+      (u j ≡ heldOf j caseCount (ofKind kind (λ k. up (e k)) j)) × (d j ≡ heldOf j caseCount (ofKind kind (λ k. down (e k)) j))
+
+module _ (kind : ℕ → ℕ) (e : ℕ → ℤ) (below : (k : ℕ) → kind k < kindCount) (u d : ℕ → ℕ) (h : Terms-from kind e u d) where
+  value-from : (s : Settings) (row : ℕ) → valueOf s row (termsBy u d) ≡ rowMaximum s row kind e
   unfolding Holds
-  holds t m = λ j p l. h .held j t p l m
+  value-from s row =
+      let above : ℕ → ℕ = λ j. heldOf j caseCount (ofKind kind (λ k. up (e k)) j) in
+      let less : ℕ → ℕ = λ j. heldOf j caseCount (ofKind kind (λ k. down (e k)) j) in
+      ap (valueOf s row) (terms-agree u d above less (λ j l. h .total j l ∙ sym (added j l)) (h .others))
+      ∙ held-value kind e below above less (λ j p l. refl) (λ j p l. refl) s row
+    where
+      added : (j : ℕ) → j < totalCount → excess (λ i. heldOf i caseCount (ofKind kind (λ k. up (e k)) i)) (λ i. heldOf i caseCount (ofKind kind (λ k. down (e k)) i)) (suc j) ≡ totalOf kind e (suc j)
+      added j l = total-held kind e below _ _ (λ i p m. refl) (λ i p m. refl) (suc j) (omega arith) (omega arith) (never-alone j l)
 
-  -- as they are, and negated: what is above zero of the one is below zero of the other
-  turned-up : Holds caseCount kind (λ k. up (negℤ (e k))) (λ j. heldAt sums j 1)
-  turned-up = subst (λ (p : ℕ → ℕ). Holds caseCount kind p (λ j. heldAt sums j 1)) (λ i k. sym (neg-up (e k)) i) (holds 1 (omega arith))
+  fluid-from : ltb (d fluid) (u fluid) ≡ actsTogether kind e fluid
+  fluid-from = less-excess (u fluid) (d fluid) ∙ ap (λ (z : ℤ). ltb 0 (up z)) (h .total 1 (omega arith))
 
-  turned-down : Holds caseCount kind (λ k. down (negℤ (e k))) (λ j. heldAt sums j 0)
-  turned-down = subst (λ (p : ℕ → ℕ). Holds caseCount kind p (λ j. heldAt sums j 0)) (λ i k. sym (neg-down (e k)) i) (holds 0 (omega arith))
+module _ (sums : List ℕ) (kind : ℕ → ℕ) (e : ℕ → ℤ) (below : (k : ℕ) → kind k < kindCount) (h : Summed sums kind e) where
+  -- as they are
+  from-sums : Terms-from kind e (λ j. heldAt sums j 0) (λ j. heldAt sums j 1)
+  from-sums = record {
+    total = λ j l. (λ i. pos (h .total j 0 l (omega arith) i) +ℤ negℤ (pos (h .total j 1 l (omega arith) i))) ∙ of-parts (totalOf kind e (suc j));
+    others = λ j p l. (h .held j 0 p l (omega arith), h .held j 1 p l (omega arith));
+  }
+
+  -- and negated: what is above zero of the one is below zero of the other
+  from-negated : Terms-from kind (λ k. negℤ (e k)) (λ j. heldAt sums j 1) (λ j. heldAt sums j 0)
+  from-negated = record {
+    total = λ j l. (λ i. pos (h .total j 1 l (omega arith) i) +ℤ negℤ (pos (h .total j 0 l (omega arith) i)))
+        ∙ of-parts-negated (totalOf kind e (suc j)) ∙ sym (total-negated kind (suc j) e);
+    others = λ j p l. (
+      h .held j 1 p l (omega arith) ∙ ap (λ (f : ℕ → ℕ). heldOf j caseCount (ofKind kind f j)) (λ i k. sym (neg-up (e k)) i),
+      h .held j 0 p l (omega arith) ∙ ap (λ (f : ℕ → ℕ). heldOf j caseCount (ofKind kind f j)) (λ i k. sym (neg-down (e k)) i),
+    );
+  }
 
   pub value-is : (s : Settings) (row : ℕ) → valueOf s row (termsOf sums 0 1) ≡ rowMaximum s row kind e
-  value-is s row = held-value kind e below (λ j. heldAt sums j 0) (λ j. heldAt sums j 1) (holds 0 (omega arith)) (holds 1 (omega arith)) s row
+  value-is = value-from kind e below (λ j. heldAt sums j 0) (λ j. heldAt sums j 1) from-sums
 
   pub negated-value-is : (s : Settings) (row : ℕ) → valueOf s row (termsOf sums 1 0) ≡ rowMaximum s row kind (λ k. negℤ (e k))
-  negated-value-is s row =
-      held-value kind (λ k. negℤ (e k)) below (λ j. heldAt sums j 1) (λ j. heldAt sums j 0) turned-up turned-down s row
+  negated-value-is = value-from kind (λ k. negℤ (e k)) below (λ j. heldAt sums j 1) (λ j. heldAt sums j 0) from-negated
 
   pub fluid-is : fluidActs sums 0 1 ≡ actsTogether kind e fluid
-  fluid-is = fluid-held kind e below (λ j. heldAt sums j 0) (λ j. heldAt sums j 1) (holds 0 (omega arith)) (holds 1 (omega arith))
+  fluid-is = fluid-from kind e below (λ j. heldAt sums j 0) (λ j. heldAt sums j 1) from-sums
 
   pub negated-fluid-is : fluidActs sums 1 0 ≡ actsTogether kind (λ k. negℤ (e k)) fluid
-  negated-fluid-is = fluid-held kind (λ k. negℤ (e k)) below (λ j. heldAt sums j 1) (λ j. heldAt sums j 0) turned-up turned-down
+  negated-fluid-is = fluid-from kind (λ k. negℤ (e k)) below (λ j. heldAt sums j 1) (λ j. heldAt sums j 0) from-negated
 
 -- ---- the sizes of the terms
 total : (H : ℕ → ℕ) (m : ℕ) → sum kindCount H ≤ m → H 1 + H 2 + H 3 + H 4 + H 5 + H 6 + H 7 + H 8 + H 9 + H 10 + H 11 + H 12 + H 13 + H 14 ≤ m
@@ -253,8 +316,7 @@ module _ (n : ℕ) (kind p : ℕ → ℕ) (below : (k : ℕ) → kind k < kindCo
         sum-most n effectMost (λ k. 1 * p k) (λ k l. omega (arith, small k)),
       )
 
-  held-total : (u : ℕ → ℕ) → Holds n kind p u → u 1 + u 2 + u 3 + u 4 + u 5 + u 6 + u 7 + u 8 + u 9 + u 10 + u 11 + u 12 + u 13 + u 14 ≤ n * effectMost
-  unfolding Holds
+  held-total : (u : ℕ → ℕ) → ((j : ℕ) → 0 < j → j < kindCount → u j ≤ heldOf j n (ofKind kind p j)) → u 1 + u 2 + u 3 + u 4 + u 5 + u 6 + u 7 + u 8 + u 9 + u 10 + u 11 + u 12 + u 13 + u 14 ≤ n * effectMost
   held-total u h =
       omega (
         arith,
@@ -285,10 +347,24 @@ small-terms u d m hu hd l =
       snow-up = refl;
     }
 
+-- a total is within what its parts make
+total-within : (kind : ℕ → ℕ) (e : ℕ → ℤ) (j t : ℕ) → partOf t (totalOf kind e j) ≤ sum caseCount (ofKind kind (λ k. partOf t (e k)) j)
+unfolding totalOf
+total-within kind e j zero = omega (arith, where-parts caseCount (λ k. eqb (kind k) j) e, one-part (totalOf kind e j), counted kind j (λ k. up (e k)), counted kind j (λ k. down (e k)))
+total-within kind e j (suc t) = omega (arith, where-parts caseCount (λ k. eqb (kind k) j) e, one-part (totalOf kind e j), counted kind j (λ k. up (e k)), counted kind j (λ k. down (e k)))
+
 pub terms-in-range : (sums : List ℕ) (kind : ℕ → ℕ) (e : ℕ → ℤ) → ((k : ℕ) → kind k < kindCount) → Summed sums kind e → ((k : ℕ) → natAbs (e k) ≤ effectMost) →
     (over under : ℕ) → over < 2 → under < 2 → TermsInRange (termsOf sums over under)
+unfolding heldBy
 terms-in-range sums kind e below h small over under a b =
     small-terms (λ j. heldAt sums j over) (λ j. heldAt sums j under) (caseCount * effectMost) (side over a) (side under b) (omega arith)
   where
+    within : (t : ℕ) → t < 2 → (j : ℕ) → 0 < j → j < kindCount → heldAt sums j t ≤ heldOf j caseCount (ofKind kind (λ k. partOf t (e k)) j)
+    within t m zero p l = absurd (omega arith)
+    within t m (suc j) p l =
+        ltb-cases j totalCount (λ _. heldAt sums (suc j) t ≤ heldOf (suc j) caseCount (ofKind kind (λ k. partOf t (e k)) (suc j)))
+        (λ b. rw (never-alone j b) (omega (arith, h .total j t b m, total-within kind e (suc j) t)))
+        (λ b. omega (arith, h .held (suc j) t (omega arith) l m))
+
     side : (t : ℕ) → t < 2 → let u : ℕ → ℕ = λ j. heldAt sums j t in u 1 + u 2 + u 3 + u 4 + u 5 + u 6 + u 7 + u 8 + u 9 + u 10 + u 11 + u 12 + u 13 + u 14 ≤ caseCount * effectMost
-    side t m = held-total caseCount kind (λ k. partOf t (e k)) below (λ k. omega (arith, part-le t (e k), small k)) (λ j. heldAt sums j t) (holds sums kind e below h t m)
+    side t m = held-total caseCount kind (λ k. partOf t (e k)) below (λ k. omega (arith, part-le t (e k), small k)) (λ j. heldAt sums j t) (within t m)

@@ -54,22 +54,22 @@ handed-is w o {o′} {written} {given} l e k n g =
 ended-all : (ended : Bool) (w : List ℕ) (room : ℕ) (s : Sheet) → ended ≡ true → readyOf w ≡ false → answerRoom ≤ room → answeredOf ended room (fieldsOf w) s ≡ fieldsOf w
 ended-all ended w room s y e h = rw y (end-fields w room s e h)
 
-pub turned : (s : Service) (effects : List ℤ) (i o : List ℕ) (ended failed : Bool) {count given taken : ℕ} {p : Progress} {effects′ : List ℤ} {i₁ i₂ o′ : List ℕ} →
+pub turned : (s : Service) (effects sums : List ℤ) (i o : List ℕ) (ended failed : Bool) {count given taken : ℕ} {p : Progress} {effects′ sums′ : List ℤ} {i₁ i₂ o′ : List ℕ} →
     answerRoom ≤ length o → Filled (s .held) count ended failed i i₁ →
-    Progressed (answeredOf ended (length o) (fieldsOf (take (count - 0) (drop 0 i₁))) (whole (s .rest) effects)) (begun (s .rest)) effects o p effects′ o′ →
+    Progressed (answeredOf ended (length o) (fieldsOf (take (count - 0) (drop 0 i₁))) (whole (s .rest) effects sums)) (begun (s .rest)) effects sums o p effects′ sums′ o′ →
     p .written ≤ length o →
     (given ≡ length (take (p .written - 0) (drop 0 o′))) × (taken ≤ length (take (p .written - 0) (drop 0 o′))) →
     i₂ ≡ over (slice (p .consumed) count i₁) i₁ →
-    Turned (length o) (whole (s .rest) effects) (take (s .held) i) (take given o′) taken (whole (p .rest) effects′) (take (count - p .consumed) i₂)
+    Turned (length o) (whole (s .rest) effects sums) (take (s .held) i) (take given o′) taken (whole (p .rest) effects′ sums′) (take (count - p .consumed) i₂)
     (((not ended && not failed) && eqb taken given) && not (p .stop))
-turned s effects i o ended failed {count} {given} {taken} {p} {effects′} {i₁} {i₂} {o′} g h a r w m =
+turned s effects sums i o ended failed {count} {given} {taken} {p} {effects′} {sums′} {i₁} {i₂} {o′} g h a r w m =
     let z : count - 0 ≡ count = omega arith in
     let e = at-hand h in
-    let sheet = whole (s .rest) effects in
+    let sheet = whole (s .rest) effects sums in
     let got = take (s .held) i ++ slice (s .held) count i₁ in
     let fs = answeredOf ended (length o) (fieldsOf got) sheet in
     let b = bytesOf (answersTo fs sheet) in
-    let x : Progressed fs (begun (s .rest)) effects o p effects′ o′ = rw (z, e) at a in
+    let x : Progressed fs (begun (s .rest)) effects sums o p effects′ sums′ o′ = rw (z, e) at a in
     let c : p .consumed ≡ spanOf fs = omega (arith, x .consumed) in
     let l : count ≤ length i₁ = omega (arith, h .most, h .same) in
     let n : p .written ≡ length b = omega (arith, x .written) in

@@ -9,7 +9,7 @@ use lib.Dec.{T, eqb, leb, eqb→eq, leb→le}
 use lib.IntN.{ℤ, pos, negsuc, negℤ}
 use lib.Signed.{_≤ℤ_}
 use lib.ListN.{length, List·getD-eq-default}
-use Rattle.integers.specs.Sums.{sum, sumℤ, most}
+use Rattle.integers.specs.Sums.{sum, sumℤ, sumWhere, most}
 use Rattle.integers.proofs.Tests.{and-left, and-right, neither}
 use Rattle.standard.specs.declared.Settings.{Settings}
 use Rattle.standard.specs.declared.Capacities.{Capacities}
@@ -177,7 +177,7 @@ each-holds (x ∷ xs) t =
     )
 
 table-checks : T (checks worked)
-unfolding checks fair outsideRange reached meets same alike extremeIn governingOf bestOf bestOver bestAmong bestFrom rowMaximum greatestOf leastOf lowerOf groupOf jointOf totalOf classOf factorOf lowOf plainRows floodRows iceRows openRows openRow patternOf peakOf utilisedOf denominatorOf sum sumℤ most
+unfolding checks fair outsideRange reached meets same alike extremeIn governingOf bestOf bestOver bestAmong bestFrom rowMaximum greatestOf leastOf lowerOf groupOf jointOf totalOf classOf factorOf lowOf plainRows floodRows iceRows openRows openRow patternOf peakOf utilisedOf denominatorOf sum sumℤ sumWhere most
 table-checks = tt
 
 pub worked-by-hand : WorkedByHand

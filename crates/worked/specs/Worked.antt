@@ -169,6 +169,18 @@ worked =
     ∷ (frame 2 0 1 (F ∷ L ∷ Fa ∷ []) (minus 30 ∷ pos 100 ∷ pos 100 ∷ []) says maximum (pos 225000))
     ∷ (icy (frame 1 0 0 (F ∷ L ∷ Di ∷ Wi ∷ []) (minus 30 ∷ pos 100 ∷ pos 100 ∷ pos 100 ∷ [])) says maximumIn (pos 300000) (14 ∷ []))
     ∷ (icy (frame 2 0 0 (F ∷ S ∷ Di ∷ Wi ∷ []) (minus 30 ∷ pos 10 ∷ pos 100 ∷ pos 100 ∷ [])) says maximumIn (pos 150000) (42 ∷ []))
+    -- a D case set to other effects, then dropped (SCOPE 11.5, Q2): its place is empty
+    ∷ (frame 1 0 0 (D ∷ D ∷ L ∷ W ∷ []) (pos 100 ∷ pos 40 ∷ pos 50 ∷ minus 200 ∷ []) says maximumIn (pos 248000) (2 ∷ []))
+    ∷ (frame 1 0 0 (D ∷ D ∷ L ∷ W ∷ []) (pos 100 ∷ pos 40 ∷ pos 50 ∷ minus 200 ∷ []) says minimum (minus 74000))
+    ∷ (frame 1 0 0 (D ∷ D ∷ L ∷ W ∷ []) (pos 70 ∷ pos 40 ∷ pos 50 ∷ minus 200 ∷ []) says maximumIn (pos 212000) (2 ∷ []))
+    ∷ (frame 1 0 0 (D ∷ D ∷ L ∷ W ∷ []) (pos 70 ∷ pos 40 ∷ pos 50 ∷ minus 200 ∷ []) says minimum (minus 101000))
+    ∷ (frame 1 0 0 (0 ∷ D ∷ L ∷ W ∷ []) (pos 0 ∷ pos 40 ∷ pos 50 ∷ minus 200 ∷ []) says maximumIn (pos 128000) (2 ∷ []))
+    ∷ (frame 1 0 0 (0 ∷ D ∷ L ∷ W ∷ []) (pos 0 ∷ pos 40 ∷ pos 50 ∷ minus 200 ∷ []) says minimum (minus 164000))
+    -- F cases dropped one after the other (SCOPE 11.5, Q3)
+    ∷ (frame 1 0 0 (D ∷ F ∷ F ∷ E ∷ []) (pos 100 ∷ pos 30 ∷ pos 20 ∷ minus 300 ∷ []) says maximumIn (pos 210000) (1 ∷ []))
+    ∷ (frame 1 0 0 (D ∷ 0 ∷ F ∷ E ∷ []) (pos 100 ∷ pos 0 ∷ pos 20 ∷ minus 300 ∷ []) says maximumIn (pos 168000) (1 ∷ []))
+    ∷ (frame 1 0 0 (D ∷ 0 ∷ F ∷ E ∷ []) (pos 100 ∷ pos 0 ∷ minus 60 ∷ minus 300 ∷ []) says minimum (minus 264000))
+    ∷ (frame 1 0 0 (D ∷ 0 ∷ 0 ∷ E ∷ []) (pos 100 ∷ pos 0 ∷ pos 0 ∷ minus 300 ∷ []) says minimum (minus 210000))
     -- the F cases act all together, by the sum of all their effects
     ∷ (frame 1 0 0 (F ∷ F ∷ []) (pos 50 ∷ minus 20 ∷ []) says maximum (pos 42000))
     ∷ (frame 1 0 0 (F ∷ F ∷ []) (pos 50 ∷ minus 20 ∷ []) says minimum (pos 0))

@@ -13,18 +13,18 @@ pub struct Counted {
 
 /// The bounds are the counts of the library as it is; they are set here alone.
 pub const LISTS: [Counted; 12] = [
-    counted("03", 1, 8, 298),
-    counted("03", 1, 32, 298),
-    counted("02/04", 1, 8, 305),
-    counted("02/04", 1, 32, 305),
-    counted("06", 1, 8, 1752),
-    counted("06", 1, 32, 2510),
-    counted("06", 2, 8, 1774),
-    counted("06", 2, 32, 2559),
-    counted("07", 1, 8, 3181),
-    counted("07", 1, 32, 4453),
-    counted("07", 2, 8, 3314),
-    counted("07", 2, 32, 4635),
+    counted("03", 1, 8, 342),
+    counted("03", 1, 32, 341),
+    counted("02/04", 1, 8, 342),
+    counted("02/04", 1, 32, 336),
+    counted("06", 1, 8, 1713),
+    counted("06", 1, 32, 2415),
+    counted("06", 2, 8, 1735),
+    counted("06", 2, 32, 2464),
+    counted("07", 1, 8, 3130),
+    counted("07", 1, 32, 4244),
+    counted("07", 2, 8, 3263),
+    counted("07", 2, 32, 4424),
 ];
 
 const fn counted(field: &'static str, method: u8, places: u8, bound: u32) -> Counted {

@@ -58,6 +58,8 @@ struct Style {
     greatest_capacity: i64,
     /// Percentage of fields whose values may lie at or outside their limits.
     edge: u64,
+    /// Percentage of steps that edit a D or an F case and look at once. Such a step has several fields: some tenth of all.
+    held: u64,
 }
 
 enum Effects {
@@ -65,12 +67,12 @@ enum Effects {
     Among(Vec<i64>),
 }
 
-/// The fields so far, and which places they leave filled.
+/// The fields so far, and the kinds of the cases that they leave in the places, 0 for an empty place.
 struct Builder<'a> {
     random: &'a mut Random,
     style: Style,
     fields: Vec<Vec<u8>>,
-    filled: [bool; PLACES],
+    kinds: [u8; PLACES],
 }
 
 /// The list with this index, and its sort.
@@ -86,7 +88,7 @@ pub fn list(random: &mut Random, index: u64) -> (Sort, Vec<u8>) {
         random,
         style,
         fields: Vec::new(),
-        filled: [false; PLACES],
+        kinds: [0; PLACES],
     };
     if sort != Sort::Short || builder.random.chance(30) {
         builder.settle();
@@ -118,6 +120,7 @@ fn style(random: &mut Random, sort: Sort) -> Style {
         effects: Effects::UpTo(limit),
         greatest_capacity: random.pick(&[3, 20, 500, 10_000]),
         edge: 2,
+        held: 4,
     };
     // Several F cases, which act together, or several T cases, which act each by itself.
     match random.below(8) {
@@ -142,6 +145,9 @@ fn style(random: &mut Random, sort: Sort) -> Style {
             // Di and Wi act in ice rows alone.
             if style.kinds.iter().any(|kind| [DI, WI].contains(kind)) {
                 style.ice = 90;
+            }
+            if !style.kinds.iter().any(|kind| [D, F].contains(kind)) {
+                style.held = 0;
             }
         }
         Sort::Short => style.places = random.below(4),
@@ -173,11 +179,10 @@ impl Builder<'_> {
         }
         for _ in 0..self.style.places {
             let Some(case) = self.place(false) else { break };
-            let kind = self.random.pick(&self.style.kinds);
+            let kind = self.kind();
             self.fill(case, kind);
             for station in self.style.stations.clone() {
-                let effects = [0; 3].map(|_| self.effect());
-                self.effects(case, station, effects);
+                self.set(case, station);
             }
         }
         for station in self.style.stations.clone() {
@@ -193,16 +198,18 @@ impl Builder<'_> {
         if self.random.chance(self.style.edge) {
             return self.edge_field();
         }
+        if self.random.chance(self.style.held) {
+            return self.held();
+        }
         let station = self.station();
         match self.random.below(400) {
             0..=99 => {
                 let case = self.place(true).unwrap_or(0);
-                let effects = [0; 3].map(|_| self.effect());
-                self.effects(case, station, effects);
+                self.set(case, station);
             }
             100..=129 => {
                 let case = self.place(false).unwrap_or(0);
-                let kind = self.random.pick(&self.style.kinds);
+                let kind = self.kind();
                 self.fill(case, kind);
             }
             130..=159 => {
@@ -227,6 +234,67 @@ impl Builder<'_> {
                 self.push(8, &[on]);
             }
             _ => self.settle(),
+        }
+    }
+
+    /// Edits of a D or an F case after which sums that are held (SCOPE 2.7) could be stale, with looks to follow at once.
+    fn held(&mut self) {
+        let station = self.station();
+        let case = self.dead_or_fluid(station);
+        match self.random.below(10) {
+            0..=3 => self.empty(case),
+            4..=6 => {
+                self.set(case, station);
+                self.look_around(station);
+                self.set(case, station);
+            }
+            // The place is filled again; its effects are 0 until they are set.
+            7 | 8 => {
+                self.empty(case);
+                let kind = self.kind();
+                let kind = self.random.pick(&[D, F, kind]);
+                self.fill(case, kind);
+                self.look_around(station);
+                self.set(case, station);
+            }
+            // Refused: an effect outside its limits, a place that is taken.
+            _ => {
+                let [n, my] = [0; 2].map(|_| self.effect());
+                self.effects(case, station, [n, my, 10_001]);
+                let kind = self.random.pick(&[D, F]);
+                self.fill(case, kind);
+            }
+        }
+        self.look_around(station);
+    }
+
+    /// A place with a D or an F case; where there is none, one is made, with effects at the station.
+    fn dead_or_fluid(&mut self, station: u8) -> u8 {
+        let held = |place: &u8| [D, F].contains(&self.kinds[usize::from(*place)]);
+        let places: Vec<u8> = (0..PLACES as u8).filter(held).collect();
+        if !places.is_empty() {
+            return self.random.pick(&places);
+        }
+        let case = self.random.below(PLACES as u64) as u8;
+        if self.kinds[usize::from(case)] != 0 {
+            self.empty(case);
+        }
+        let kind = self.random.pick(&[D, F]);
+        self.fill(case, kind);
+        self.set(case, station);
+        case
+    }
+
+    /// Looks at a station, and now and then at one next to it.
+    fn look_around(&mut self, station: u8) {
+        let component = self.random.below(3) as u8;
+        self.push(6, &[station, component]);
+        if self.random.chance(50) {
+            self.push(7, &[station]);
+        }
+        if self.random.chance(25) {
+            let next = (station + self.random.pick(&[1, 15])) % STATIONS as u8;
+            self.push(6, &[next, component]);
         }
     }
 
@@ -329,6 +397,10 @@ impl Builder<'_> {
         self.random.pick(&self.style.stations)
     }
 
+    fn kind(&mut self) -> u8 {
+        self.random.pick(&self.style.kinds)
+    }
+
     fn effect(&mut self) -> i64 {
         match &self.style.effects {
             Effects::Among(values) => self.random.pick(values),
@@ -347,30 +419,39 @@ impl Builder<'_> {
     /// A place that is filled, or one that is empty.
     fn place(&mut self, filled: bool) -> Option<u8> {
         let places: Vec<u8> = (0..PLACES as u8)
-            .filter(|place| self.filled[usize::from(*place)] == filled)
+            .filter(|place| (self.kinds[usize::from(*place)] != 0) == filled)
             .collect();
         (!places.is_empty()).then(|| self.random.pick(&places))
     }
 
     fn fresh(&mut self, method: u8, live_option: u8, zone: u8) {
         if (1..=2).contains(&method) && live_option <= 1 && zone <= 2 {
-            self.filled = [false; PLACES];
+            self.kinds = [0; PLACES];
         }
         self.push(1, &[method, live_option, zone]);
     }
 
     fn fill(&mut self, case: u8, kind: u8) {
         if usize::from(case) < PLACES && (D..=T).contains(&kind) {
-            self.filled[usize::from(case)] = true;
+            let held = &mut self.kinds[usize::from(case)];
+            // A place that is taken keeps its case.
+            if *held == 0 {
+                *held = kind;
+            }
         }
         self.push(2, &[case, kind]);
     }
 
     fn empty(&mut self, case: u8) {
         if usize::from(case) < PLACES {
-            self.filled[usize::from(case)] = false;
+            self.kinds[usize::from(case)] = 0;
         }
         self.push(4, &[case]);
+    }
+
+    fn set(&mut self, case: u8, station: u8) {
+        let effects = [0; 3].map(|_| self.effect());
+        self.effects(case, station, effects);
     }
 
     fn effects(&mut self, case: u8, station: u8, effects: [i64; 3]) {

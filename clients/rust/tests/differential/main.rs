@@ -24,7 +24,7 @@ use pipe::{Batch, Program};
 use random::Random;
 use reference::{Answer, Sheet};
 use shrink::Subject;
-use summary::Summary;
+use summary::{Before, Summary};
 
 const DEFAULT_FIELDS: u64 = 20_000;
 const DEFAULT_SEED: u64 = 1;
@@ -95,6 +95,7 @@ impl Run {
             worked::ice(),
             worked::fluid(),
             worked::straining(),
+            worked::held(),
             worked::turned(),
             worked::refusals(),
             worked::lengths(),
@@ -137,8 +138,9 @@ impl Run {
     fn check_reference(&mut self, list: &[u8]) {
         let mut result = Ok(());
         let summary = &mut self.summary;
+        let mut before = Before::fresh();
         reference::read_list(&mut Sheet::fresh(), list, |sheet, field, answer| {
-            summary.count(sheet, answer);
+            summary.count(&mut before, sheet, field, answer);
             if result.is_err() || matches!(answer, Answer::Accepted | Answer::Refused(_)) {
                 return;
             }

@@ -2,7 +2,7 @@
 
 use std::time::Duration;
 
-use crate::combination::{F, T};
+use crate::combination::{D, F, T};
 use crate::lists::Sort;
 use crate::reference::{Answer, Sheet};
 
@@ -19,6 +19,8 @@ pub struct Summary {
     pub with_ice: u64,
     pub with_fluids: u64,
     pub with_straining: u64,
+    pub after_drops: u64,
+    pub after_sets: u64,
     pub enumerated: u64,
     pub refusals: [u64; 16],
     pub chains: u64,
@@ -29,9 +31,54 @@ pub struct Summary {
     pub differences: u64,
 }
 
+/// The sheet before a field, and what the last edit was.
+pub struct Before {
+    sheet: Sheet,
+    edited: Edited,
+}
+
+/// An edit of a D or an F case after which a sum that is held (SCOPE 2.7) could be stale.
+#[derive(Clone, Copy)]
+enum Edited {
+    Dropped,
+    SetAgain,
+    Otherwise,
+}
+
+impl Before {
+    pub fn fresh() -> Before {
+        Before {
+            sheet: Sheet::fresh(),
+            edited: Edited::Otherwise,
+        }
+    }
+
+    /// What a field that is accepted edits.
+    fn edited(&self, field: &[u8]) -> Edited {
+        let case = self.sheet.places.get(usize::from(field[3])).copied();
+        match (field[0], case.flatten()) {
+            (4, Some(case)) if [D, F].contains(&case.kind) => Edited::Dropped,
+            (3, Some(case)) if [D, F].contains(&case.kind) => {
+                match case.effects[usize::from(field[4])] {
+                    [0, 0, 0] => Edited::Otherwise,
+                    _ => Edited::SetAgain,
+                }
+            }
+            _ => Edited::Otherwise,
+        }
+    }
+}
+
 impl Summary {
     /// Counts an answer; `sheet` is the sheet after the field.
-    pub fn count(&mut self, sheet: &Sheet, answer: &Answer) {
+    pub fn count(&mut self, before: &mut Before, sheet: &Sheet, field: &[u8], answer: &Answer) {
+        match (answer, before.edited) {
+            (Answer::Accepted, _) => before.edited = before.edited(field),
+            (Answer::Refused(_), _) | (_, Edited::Otherwise) => {}
+            (_, Edited::Dropped) => self.after_drops += 1,
+            (_, Edited::SetAgain) => self.after_sets += 1,
+        }
+        before.sheet.clone_from(sheet);
         if matches!(answer, Answer::Extremes { .. } | Answer::Utilisation { .. }) {
             self.with_ice += u64::from(sheet.ice);
             let count = |kind: u8| {
@@ -73,6 +120,8 @@ impl Summary {
         line("  of both, with ice", self.with_ice);
         line("  of both, with several F cases", self.with_fluids);
         line("  of both, T not at 1000", self.with_straining);
+        line("  of both, D or F just dropped", self.after_drops);
+        line("  of both, D or F just set again", self.after_sets);
         line("  of both, also enumerated", self.enumerated);
         for number in 1..=15 {
             line(&format!("refusal {number}"), self.refusals[number]);

@@ -1,5 +1,5 @@
-//! Fixed lists: the frames worked by hand, sheets with ice, with F, with T and with every effect turned, the small inputs of
-//! the table of refusals, and fields at the limits of a length.
+//! Fixed lists: the frames worked by hand, sheets with ice, with F, with T, with D and F cases dropped and set again, and with every
+//! effect turned, the small inputs of the table of refusals, and fields at the limits of a length.
 
 use std::ops::RangeInclusive;
 
@@ -256,6 +256,46 @@ pub fn straining() -> Vec<Example> {
         verdict(1501, 15_010_000, false),
         extremes("T turned", set(PLAIN, &[(D, -100), (T, 30), (T, -50)], 2000), Extremes(-30_000, -220_000)),
         extremes("T not turned", set(PLAIN, &[(D, 100), (T, -30), (T, 50)], 2000), Extremes(220_000, 30_000)),
+    ]
+}
+
+/// N at station 0.
+fn on_n(place: u8, effect: i16) -> Vec<u8> {
+    let [high, low] = effect.to_be_bytes();
+    field(3, &[place, 0, high, low, 0, 0, 0, 0])
+}
+
+// SCOPE 11.5
+/// Each list has a look after every step; the last answer is the one that is compared with the document.
+#[rustfmt::skip]
+pub fn held() -> Vec<Example> {
+    let look = || field(6, &[0, 0]);
+    let then = |list: &[u8], step: Vec<u8>| [list, &look(), &step].concat();
+    let simple = cases(PLAIN, &[(D, 100), (L, 50)]);
+    let simple_dropped = then(&simple, field(4, &[0]));
+    let dead = cases(PLAIN, &[(D, 100), (D, 40), (L, 50), (W, -200)]);
+    let again = then(&dead, on_n(0, 70));
+    let refused = then(&again, on_n(0, 10_001));
+    let dropped = then(&refused, field(4, &[0]));
+    let tank = cases(PLAIN, &[(D, 100), (F, 30), (F, 20), (E, -300)]);
+    let one_less = then(&tank, field(4, &[1]));
+    let opposing = then(&one_less, on_n(2, -60));
+    let none = then(&opposing, field(4, &[2]));
+    let as_dead = then(&none, field(2, &[2, D]));
+    let fresh = then(&as_dead, field(1, &PLAIN));
+    vec![
+        extremes("D and L", simple, Extremes(200_000, 90_000)),
+        extremes("D dropped", simple_dropped, Extremes(80_000, 0)),
+        extremes("two D cases", dead, Extremes(248_000, -74_000)),
+        extremes("a D case set again", again, Extremes(212_000, -101_000)),
+        extremes("a D case set with 9", refused, Extremes(212_000, -101_000)),
+        extremes("one of two D cases dropped", dropped, Extremes(128_000, -164_000)),
+        extremes("two F cases", tank, Extremes(210_000, -210_000)),
+        extremes("one of two F cases dropped", one_less, Extremes(168_000, -210_000)),
+        extremes("an F case set again", opposing, Extremes(140_000, -264_000)),
+        extremes("no F case left", none, Extremes(140_000, -210_000)),
+        extremes("the place of F filled as D", as_dead, Extremes(140_000, -210_000)),
+        extremes("01 after D and F", fresh, Extremes(0, 0)),
     ]
 }
 

@@ -10,12 +10,12 @@ use Rattle.fields.proofs.field_in.Tie as tie
 
 run-requires : tie.Need-run-requires
 run-requires c κs =
-    let d = c .before .before in
-    (search needs, known-tag _ _ (sym (d .due-header .ensures) ∙ c .before .if1 .taken))
+    let d = c .before .before .before in
+    (d .before .before .pre, known-tag _ _ (sym (d .due-header .ensures) ∙ c .before .before .if1 .taken))
 
 returns : tie.Need-returns
 unfolding fieldOf
-returns c = rw (eq-eqb _ _ (sym (c .before .before .before .due-header .ensures) ∙ c .before .before .if1 .taken)) (c .run .ensures)
+returns c = rw (eq-eqb _ _ (sym (c .before .before .before .before .due-header .ensures) ∙ c .before .before .before .if1 .taken)) (c .run .ensures)
 
 returns-2 : tie.Need-returns-2
 unfolding fieldOf

@@ -5,12 +5,12 @@ use Rattle.fields.proofs.read_field.Statement.{statement}
 use Rattle.fields.proofs.read_field.Tie as tie
 
 read-in-requires : tie.Need-read-in-requires
-read-in-requires c κs = rw (c .before .before .rest .ensures) (c .before .before .before .before .before .before .pre)
+read-in-requires c κs = rw (c .before .before .before .rest .ensures) (c .before .before .before .before .before .before .before .before .pre)
 
 returns : tie.Need-returns
 returns c =
     let r = c .before .before .before .before in
-    rw (c .with-effects .ensures) (rw (r .before .before .before .rest .ensures) at (r .read-in .ensures))
+    rw (c .with-effects .ensures) (rw (r .before .before .before .before .rest .ensures) at (r .read-in .ensures))
 
 pub read-field-spec : {M : Type 1} → statement M
 read-field-spec =

@@ -39,24 +39,24 @@ returns-2 c =
     read-on (m .before .before .before .before .pre) (record { reading = by-order _ _ _ (rw (le-ltb _ _ (m .before .if1 .left), e, p .0)); output = p .1 })
 
 add-field-in : tie.Need-add-field-in
-add-field-in c = omega (arith, header-fits _ _ _ (c .before .before .before .before .header-of .ensures) (c .before .before .h .given .1))
+add-field-in c = omega (arith, header-fits _ _ _ (c .before .before .before .before .before .header-of .ensures) (c .before .before .before .h .given .1))
 
 part-field-in-end : tie.Need-part-field-in-end
-part-field-in-end c = header-fits _ _ _ (c .before .before .before .before .header-of .ensures) (c .before .before .h .given .1)
+part-field-in-end c = header-fits _ _ _ (c .before .before .before .before .before .header-of .ensures) (c .before .before .before .h .given .1)
 
 put-answer-requires-2 : tie.Need-put-answer-requires-2
 put-answer-requires-2 c κs = (search needs, rw (ap (λ (a : Answered). a .answer) (c .before .field-in .ensures)) (field-fits _ _ _))
 
-add-t14 : tie.Need-add-t14
-add-t14 c =
-    let h = c .before .before .before .before .before .before .before .before .before in
+add-t15 : tie.Need-add-t15
+add-t15 c =
+    let h = c .before .before .before .before .before .before .before .before .before .before in
     omega (arith, header-fits _ _ _ (h .before .before .header-of .ensures) (h .h .given .1))
 
 returns-3 : tie.Need-returns-3
 unfolding readInOrder readHeader
 returns-3 c =
     let f = c .before .before .before .before .before in
-    let h = f .before .before .before .before in
+    let h = f .before .before .before .before .before in
     let l = h .h .given .0 .1 .0 in
     let g : 3 + l - 3 ≡ l = omega arith in
     let e = sym (h .before .before .header-of .ensures) ∙ h .h .given .1 in
@@ -81,6 +81,6 @@ read-in-spec =
     part-field-in-end
     (λ c κs. search needs)
     put-answer-requires-2
-    add-t14
+    add-t15
     (λ c. search needs)
     returns-3)

@@ -8,7 +8,7 @@ use Rattle.frames.proofs.main.Tie as tie
 
 serve-requires : tie.Need-serve-requires
 unfolding zeros
-serve-requires c κs = (refl, search needs)
+serve-requires c κs = (refl, refl, search needs)
 
 pub main-spec : {M : Type 1} → statement M
 main-spec =

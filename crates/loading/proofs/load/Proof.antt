@@ -19,17 +19,18 @@ small n = omega arith
 
 read-all-requires : tie.Need-read-all-requires
 read-all-requires c κs =
-    let f = c .before .before in
-    let e = fresh-whole _ (f .fresh .ensures) (f .before .fresh-settings .ensures) (f .before .before .before .pre) in
+    let f = c .before .before .before in
+    let a = f .before .before .before in
+    let e = fresh-whole _ (f .fresh .ensures) (f .before .fresh-settings .ensures) (a .pre .0) (a .pre .1) in
     (rw e fresh-kept, small _)
 
 returns : tie.Need-returns
 returns c =
     let r = c .before in
-    let f = r .before .before .before in
+    let f = r .before .before .before .before in
     let a = f .before .before .before in
-    let e = fresh-whole _ (f .fresh .ensures) (f .before .fresh-settings .ensures) (a .pre) in
-    load-is (a .args .state .now) (r .read-all .result) _ (replicate answerRoom 0) (rw e at (r .read-all .ensures))
+    let e = fresh-whole _ (f .fresh .ensures) (f .before .fresh-settings .ensures) (a .pre .0) (a .pre .1) in
+    load-is (a .args .state .now) (r .read-all .result) _ _ (replicate answerRoom 0) (rw e at (r .read-all .ensures))
 
 pub load-spec : {M : Type 1} → statement M
 load-spec = tie.close (tie.spec (λ c κs. search needs) (λ c κs. search needs) (λ c. search needs) read-all-requires returns)

@@ -20,9 +20,10 @@ four-sums-of-requires c κs =
       s .pre .1,
       s .pre .2,
       s .pre .3,
-      places-in-range (s .args .places .now) (s .pre .4 .kind) (s .pre .4 .are),
-      s .pre .5,
-      subst WeightsInRange (sym (w .pattern-weights .ensures)) (pattern-in-range (s .args .p) _ (s .pre .6)),
+      s .pre .4,
+      places-in-range (s .args .places .now) (s .pre .5 .kind) (s .pre .5 .are),
+      s .pre .6,
+      subst WeightsInRange (sym (w .pattern-weights .ensures)) (pattern-in-range (s .args .p) _ (s .pre .7)),
     )
 
 returns : tie.Need-returns
@@ -31,8 +32,8 @@ returns c =
     let w = f .before .before .before .before .before in
     let s = w .before .before .before .before .before .before in
     let l = f .four-sums-of .last in
-    patterns-served (l .0) (l .1 .0) (l .1 .1 .0) (l .1 .1 .1 .0) (s .args .places .now) (s .args .effects .now) (s .args .p) (s .pre .5) (s .pre .6)
-    (subst (λ (v : Weights). FourOf (l .0) (l .1 .0) (l .1 .1 .0) (l .1 .1 .1 .0) (s .args .places .now) (directed v (effectOf (s .args .effects .now))) kindCount)
+    patterns-served (l .0) (l .1 .0) (l .1 .1 .0) (l .1 .1 .1 .0) (s .args .totals .now) (s .args .places .now) (s .args .effects .now) (s .args .p) (s .pre .6) (s .pre .7)
+    (subst (λ (v : Weights). FourOf (l .0) (l .1 .0) (l .1 .1 .0) (l .1 .1 .1 .0) (directed v (effectOf (s .args .totals .now))) (s .args .places .now) (directed v (effectOf (s .args .effects .now))) kindCount)
     (w .pattern-weights .ensures) (f .four-sums-of .ensures))
 
 pub pattern-pass-spec : {M : Type 1} → statement M

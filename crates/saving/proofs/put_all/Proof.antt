@@ -1,6 +1,6 @@
 -- `saving::put_all` meets its contract.
 -- Assumes nothing.
-use mathlib.Core.List.{_++_}
+use mathlib.Core.List.{[], _++_}
 use native.Mathlib.Omega.{arith}
 use borrow.Author.Needs.{needs}
 use Rattle.sheet.specs.Sheet.{kindAt, effectAt, capacityAt}
@@ -24,19 +24,19 @@ put-capacities-requires c κs =
     let q = c .before .before .before .before in
     let p = q .before .before .before .before .before in
     let a = p .before .before .before .before .before .before in
-    let s = whole (a .args .rest) (a .args .effects .now) in
+    let s = whole (a .args .rest) (a .args .effects .now) [] in
     let e = put-long (settingsBytes (s .settings)) (a .args .out .now) 0 (p .put-settings .ensures) in
     let f = put-long (upTo (caseBytes (kindAt s) (effectAt s)) 32) (p .put-settings .last .1 .0) (p .put-settings .result) (q .put-cases .ensures) in
     omega (arith, p .put-settings .ensures .0, q .put-cases .ensures .0, settings-most (s .settings), places-most (kindAt s) (effectAt s), a .pre)
 
 returns : tie.Need-returns
 unfolding savedBytes savedBy effectAt capacityAt
-returns c =
+returns c sums =
     let w = c .before .before in
     let q = w .before .before .before .before .before in
     let p = q .before .before .before .before .before in
     let a = p .before .before .before .before .before .before .args in
-    let s = whole (a .rest) (a .effects .now) in
+    let s = whole (a .rest) (a .effects .now) sums in
     let cases = upTo (caseBytes (kindAt s) (effectAt s)) 32 in
     let stations = upTo (capacityBytes (capacityAt s)) 16 in
     put-two (settingsBytes (s .settings)) (cases ++ stations) (a .out .now) 0 (p .put-settings .ensures)

@@ -1,7 +1,7 @@
 -- `saving::save_in` meets its contract.
 -- Assumes nothing.
 use Prim.Native.Nat.{ℕ, _≤_, _<_}
-use mathlib.Core.List.{List}
+use mathlib.Core.List.{List, []}
 use mathlib.Core.Path.{_≡_, sym, _∙_}
 use native.Mathlib.Nat.{zero-add}
 use native.Mathlib.Omega.{arith}
@@ -38,11 +38,11 @@ module _ (s : Sheet) {n : ℕ} {b : List ℕ} (h : Put (replicate savedMost 0) 0
 
 returns : tie.Need-returns
 unfolding savedAnswer savedOver
-returns c =
+returns c sums =
     let p = c .before .before in
     let a = p .before .before .before .args in
-    let s = whole (a .rest) (a .effects .now) in
-    let e = count s (p .put-all .ensures) in
+    let s = whole (a .rest) (a .effects .now) sums in
+    let e = count s (p .put-all .ensures sums) in
     let h : length (a .out .now) < length (savedBytes s) = omega (arith, e) in
     (rw (lt-ltb _ _ h), rw (lt-ltb _ _ h))
 
@@ -50,31 +50,31 @@ array-share-prefix-buffer : tie.Need-array-share-prefix-buffer
 array-share-prefix-buffer c =
     let p = c .before .before .before in
     let a = p .before .before .before .args in
-    long (whole (a .rest) (a .effects .now)) (p .put-all .ensures)
+    long (whole (a .rest) (a .effects .now) []) (p .put-all .ensures [])
 
 slice-aggregate-put-at : tie.Need-slice-aggregate-put-at
 slice-aggregate-put-at c =
     let p = c .before .before .before .before in
     let a = p .before .before .before .args in
-    sym (part (whole (a .rest) (a .effects .now)) (p .put-all .ensures))
+    sym (part (whole (a .rest) (a .effects .now) []) (p .put-all .ensures []))
 
 put-at-requires : tie.Need-put-at-requires
 put-at-requires c κs =
     let p = c .before .before .before .before in
     let a = p .before .before .before .args in
-    let e = part (whole (a .rest) (a .effects .now)) (p .put-all .ensures) in
+    let e = part (whole (a .rest) (a .effects .now) []) (p .put-all .ensures []) in
     omega (arith, e, c .before .before .if1 .left)
 
 returns-2 : tie.Need-returns-2
 unfolding savedAnswer savedOver
-returns-2 c =
+returns-2 c sums =
     let q = c .before .before in
     let p = q .before .before .before .before .before in
     let a = p .before .before .before .args in
-    let s = whole (a .rest) (a .effects .now) in
-    let e = count s (p .put-all .ensures) in
+    let s = whole (a .rest) (a .effects .now) sums in
+    let e = count s (p .put-all .ensures sums) in
     let l : length (savedBytes s) ≤ length (a .out .now) = omega (arith, e, q .before .before .before .if1 .left) in
-    let t = taken s (p .put-all .ensures) in
+    let t = taken s (p .put-all .ensures sums) in
     (rw (le-ltb _ _ l, q .put-at .ensures .0, t, zero-add), rw (le-ltb _ _ l, q .put-at .ensures .1, t) (front (savedBytes s) (a .out .now) l))
 
 pub save-in-spec : {M : Type 1} → statement M

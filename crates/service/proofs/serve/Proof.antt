@@ -15,25 +15,25 @@ use Rattle.service.proofs.serve.Tie as tie
 use Rattle.answers.specs.Answers.{answerRoom}
 
 abbrev Inv-loop : tie.InvT-loop
-Inv-loop effects₀ input₀ output₀ s₀ left₀ effects input output s left =
-    Serving (length output₀) freshSheet (whole (s .rest) effects) (take (s .held) input) (s .more) left
-    × InRange (whole (s .rest) effects) × (s .held ≤ length input) × (answerRoom ≤ length output) × (length input ≡ length input₀) × (length output ≡ length output₀)
+Inv-loop effects₀ sums₀ input₀ output₀ s₀ left₀ effects sums input output s left =
+    Serving (length output₀) freshSheet (whole (s .rest) effects sums) (take (s .held) input) (s .more) left
+    × InRange (whole (s .rest) effects sums) × (s .held ≤ length input) × (answerRoom ≤ length output) × (length input ≡ length input₀) × (length output ≡ length output₀)
 
 abbrev μ-loop : tie.MeasureT-loop
-μ-loop effects₀ input₀ output₀ s₀ left₀ effects input output s left = left
+μ-loop effects₀ sums₀ input₀ output₀ s₀ left₀ effects sums input output s left = left
 
 loop-holds : tie.Need-loop-holds Inv-loop μ-loop
 loop-holds c =
     let a = c .before .before .before .before in
-    let e : whole (c .fresh .result) (a .args .effects .now) ≡ freshSheet =
-    fresh-whole _ (c .fresh .ensures) (c .before .fresh-settings .ensures) (a .pre .0) in
+    let e : whole (c .fresh .result) (a .args .effects .now) (a .args .sums .now) ≡ freshSheet =
+    fresh-whole _ (c .fresh .ensures) (c .before .fresh-settings .ensures) (a .pre .0) (a .pre .1) in
     (serving-start (length (a .args .output .now)) e, rw e fresh-kept, search needs, search needs, search needs, search needs)
 
 loop-again : tie.Need-loop-again Inv-loop μ-loop
 loop-again c =
     let t = c .before .before .before .before .before in
-    let i = t .before .before .before .before .before .loop .inv in
-    (serving-next (i .0) (t .before .before .before .before .loop-test .taken) (rw (i .5) at (t .turn .ensures .0)) (c .remaining .ensures .1), search needs, search needs, search needs, search needs, search needs)
+    let i = t .before .before .before .before .before .before .loop .inv in
+    (serving-next (i .0) (t .before .before .before .before .before .loop-test .taken) (rw (i .5) at (t .turn .ensures .0)) (c .remaining .ensures .1), search needs, search needs, search needs, search needs, search needs)
 
 returns : tie.Need-returns Inv-loop μ-loop
 returns c = served (c .before .loop .inv .0) (c .loop-test .left)

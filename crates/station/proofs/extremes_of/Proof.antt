@@ -18,6 +18,7 @@ use Rattle.envelope.specs.Range.{kindOf, effectOf, effectMost, EffectsInRange}
 use Rattle.envelope.specs.Envelope.{governingOf, extremeIn, negatedOf, extremesOf}
 use Rattle.envelope.proofs.Limits.{row-below, value-fits}
 use Rattle.sums.proofs.Gathered.{places-in-range}
+use Rattle.sums.proofs.Totals.{held-in-range}
 use Rattle.passes.specs.Passes.{ServesBoth}
 use Rattle.naming.proofs.BestSets.{chosen-in-range}
 use Rattle.station.specs.Promises.{ExtremesFromPass}
@@ -53,7 +54,7 @@ served : (c : tie.After-component-pass) → let s = c .before .before .before .b
 served c =
     let p = c .before .before in
     let s = p .before .before in
-    c .component-pass .ensures .serves (kind s) (below s) (p .places-of .ensures)
+    c .component-pass .ensures .serves (kind s) (below s) (p .places-of .ensures) (s .pre .1 .are .on (s .args .component) (s .pre .2))
 
 -- the rows that govern
 most-is : (c : tie.After-toward) → let s = c .before .before .before .before .before .before in
@@ -76,14 +77,18 @@ places-of-requires c κs = let s = c .before in record { long = s .pre .0 .kinds
 component-pass-requires : tie.Need-component-pass-requires
 component-pass-requires c κs =
     let p = c .before in
-    let s = p .before .before in
-    (record { kind = kind s; below = below s; are = p .places-of .ensures }, in-range s, s .pre .1)
+    let s = p .before .before in (
+      held-in-range (s .args .totals .now) (s .args .kinds .now) (s .args .effects .now) (s .pre .1) (in-range s),
+      record { kind = kind s; below = below s; are = p .places-of .ensures },
+      in-range s,
+      s .pre .2,
+    )
 
 toward-requires : tie.Need-toward-requires
-toward-requires c κs = (served (c .before) .ready, omega arith, omega arith, c .before .before .before .before .before .pre .2)
+toward-requires c κs = (served (c .before) .ready, omega arith, omega arith, c .before .before .before .before .before .pre .3)
 
 toward-requires-2 : tie.Need-toward-requires-2
-toward-requires-2 c κs = (served (c .before .before .before) .ready, omega arith, omega arith, c .before .before .before .before .before .before .before .pre .2)
+toward-requires-2 c κs = (served (c .before .before .before) .ready, omega arith, omega arith, c .before .before .before .before .before .before .before .pre .3)
 
 -- whether the F cases act
 raised-is : (c : tie.After-fluid-acts) → let s = c .before .before .before .before .before .before .before .before .before .before in c .fluid-acts .result ≡ actsTogether (kind s) (effect s) fluid
@@ -108,7 +113,7 @@ sets-at-requires c κs =
       places-in-range (p .places-of .result) (kind s) (p .places-of .ensures),
       chosen-in-range (p .places-of .result) (kind s) (p .places-of .ensures) (t .toward .result .row) (a .fluid-acts .result),
       in-range s,
-      s .pre .1,
+      s .pre .2,
     )
 
 sets-at-requires-2 : tie.Need-sets-at-requires-2
@@ -121,18 +126,18 @@ sets-at-requires-2 c κs =
       places-in-range (p .places-of .result) (kind s) (p .places-of .ensures),
       chosen-in-range (p .places-of .result) (kind s) (p .places-of .ensures) (t .toward2 .result .row) (a .fluid-acts2 .result),
       in-range s,
-      s .pre .1,
+      s .pre .2,
     )
 
 most-fits : (c : tie.After-toward) → natAbs (c .toward .result .value) < 2 ^ 63
 most-fits c =
     let s = c .before .before .before .before .before .before in
-    subst (λ (b : Best). natAbs (b .value) < 2 ^ 63) (sym (most-is c)) (value-fits (s .args .s) (kind s) (effect s) (s .pre .2) (small s))
+    subst (λ (b : Best). natAbs (b .value) < 2 ^ 63) (sym (most-is c)) (value-fits (s .args .s) (kind s) (effect s) (s .pre .3) (small s))
 
 least-fits : (c : tie.After-toward2) → natAbs (c .toward2 .result .value) < 2 ^ 63
 least-fits c =
     let s = c .before .before .before .before .before .before .before .before in
-    subst (λ (b : Best). natAbs (b .value) < 2 ^ 63) (sym (least-is c)) (value-fits (s .args .s) (kind s) (λ k. negℤ (effect s k)) (s .pre .2) (opposed-small s))
+    subst (λ (b : Best). natAbs (b .value) < 2 ^ 63) (sym (least-is c)) (value-fits (s .args .s) (kind s) (λ k. negℤ (effect s k)) (s .pre .3) (opposed-small s))
 
 negated-requires : tie.Need-negated-requires
 negated-requires c κs = let t = c .before .before .before .before .before .before .before .before .before in rw (back (t .toward2 .result .value) (least-fits t)) (least-fits t)
@@ -144,7 +149,7 @@ extreme-requires c κs =
     let t = a .before .before .before .before in
     let p = t .before .before .before .before in
     let s = p .before .before in
-    sets-fit (s .args .s) (s .pre .2) (kind s) (below s) (p .places-of .result) (p .places-of .ensures) (effect s) (t .toward .result .row) (a .fluid-acts .result) (raised-is a) (x .sets-at .result) (x .sets-at .ensures)
+    sets-fit (s .args .s) (s .pre .3) (kind s) (below s) (p .places-of .result) (p .places-of .ensures) (effect s) (t .toward .result .row) (a .fluid-acts .result) (raised-is a) (x .sets-at .result) (x .sets-at .ensures)
 
 extreme-requires-2 : tie.Need-extreme-requires-2
 extreme-requires-2 c κs =
@@ -153,7 +158,7 @@ extreme-requires-2 c κs =
     let t = a .before .before .before .before in
     let p = t .before .before .before .before .before .before in
     let s = p .before .before in
-    sets-fit (s .args .s) (s .pre .2) (kind s) (below s) (p .places-of .result) (p .places-of .ensures) (λ k. negℤ (effect s k)) (t .toward2 .result .row) (a .fluid-acts2 .result) (lowered-is a) (x .sets-at2 .result) (x .sets-at2 .ensures)
+    sets-fit (s .args .s) (s .pre .3) (kind s) (below s) (p .places-of .result) (p .places-of .ensures) (λ k. negℤ (effect s k)) (t .toward2 .result .row) (a .fluid-acts2 .result) (lowered-is a) (x .sets-at2 .result) (x .sets-at2 .ensures)
 
 returns : tie.Need-returns
 unfolding extremesOf
@@ -172,13 +177,13 @@ returns c =
     let places = p .places-of .result in
     let held = p .places-of .ensures in
     let maximum : m .extreme .result ≡ extremeIn (s .args .s) (kind s) (effect s) (governingOf (s .args .s) (kind s) (effect s)) =
-    extreme-is (s .args .s) (s .pre .2) (kind s) (below s) places held (effect s) (t .toward .result .row) (a .fluid-acts .result) (raised-is a) (x .sets-at .result) (x .sets-at .ensures) (m .extreme .result) (t .toward .result .value)
+    extreme-is (s .args .s) (s .pre .3) (kind s) (below s) places held (effect s) (t .toward .result .row) (a .fluid-acts .result) (raised-is a) (x .sets-at .result) (x .sets-at .ensures) (m .extreme .result) (t .toward .result .value)
     (m .extreme .ensures .1) (m .extreme .ensures .2) (m .extreme .ensures .3) (m .extreme .ensures .0 ∙ back (t .toward .result .value) (most-fits t))
     ∙ ap (extremeIn (s .args .s) (kind s) (effect s)) (most-is t) in
     let value : c .extreme2 .result .value ≡ negℤ (u .toward2 .result .value) =
     c .extreme2 .ensures .0 ∙ read (n .negated .result) (n .negated .ok) ∙ n .negated .ensures ∙ ap negℤ (back (u .toward2 .result .value) (least-fits u)) in
     let minimum : c .extreme2 .result ≡ negatedOf (extremeIn (s .args .s) (kind s) (λ k. negℤ (effect s k)) (governingOf (s .args .s) (kind s) (λ k. negℤ (effect s k)))) =
-    negated-extreme-is (s .args .s) (s .pre .2) (kind s) (below s) places held (λ k. negℤ (effect s k)) (u .toward2 .result .row) (b .fluid-acts2 .result) (lowered-is b) (y .sets-at2 .result) (y .sets-at2 .ensures) (c .extreme2 .result) (u .toward2 .result .value)
+    negated-extreme-is (s .args .s) (s .pre .3) (kind s) (below s) places held (λ k. negℤ (effect s k)) (u .toward2 .result .row) (b .fluid-acts2 .result) (lowered-is b) (y .sets-at2 .result) (y .sets-at2 .ensures) (c .extreme2 .result) (u .toward2 .result .value)
     (c .extreme2 .ensures .1) (c .extreme2 .ensures .2) (c .extreme2 .ensures .3) value
     ∙ ap (λ (b : Best). negatedOf (extremeIn (s .args .s) (kind s) (λ k. negℤ (effect s k)) b)) (least-is u) in
     let is : _≡_ {A = Extremes} (record { maximum = m .extreme .result; minimum = c .extreme2 .result }) (extremesOf (s .args .s) (kind s) (effect s)) =
@@ -189,7 +194,7 @@ returns c =
       maximum = m .extreme .ensures .0 ∙ back (t .toward .result .value) (most-fits t) ∙ ap (λ (x : Best). x .value) (t .toward .ensures);
       minimum = value ∙ ap (λ (x : Best). negℤ (x .value)) (u .toward2 .ensures);
     } in
-    (is, extremes-govern (s .args .s) (kind s) (past s) (effect s) _ is (s .pre .2), from)
+    (is, extremes-govern (s .args .s) (kind s) (past s) (effect s) _ is (s .pre .3), from)
 
 pub extremes-of-spec : {M : Type 1} → statement M
 extremes-of-spec =

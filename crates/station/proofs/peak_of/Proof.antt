@@ -14,19 +14,19 @@ use Rattle.station.proofs.peak_of.Tie as tie
 
 -- the sums serve the patterns, for the kinds that the cases are known to have
 served : (c : tie.After-pattern-pass) → let s = c .before .before .before .before .before .before in let l = c .pattern-pass .last in
-    ServesPatterns (l .0) (l .1 .0) (l .1 .1 .0) (l .1 .1 .1 .0) (s .pre .0 .kind) (effectOf (s .args .effects .now)) (s .args .p)
+    ServesPatterns (l .0) (l .1 .0) (l .1 .1 .0) (l .1 .1 .1 .0) (s .pre .1 .kind) (effectOf (s .args .effects .now)) (s .args .p)
 served c =
     let s = c .before .before .before .before .before .before in
-    c .pattern-pass .ensures .serves (s .pre .0 .kind) (s .pre .0 .below) (s .pre .0 .are)
+    c .pattern-pass .ensures .serves (s .pre .1 .kind) (s .pre .1 .below) (s .pre .1 .are) (s .pre .1 .added)
 
 pattern-pass-requires : tie.Need-pattern-pass-requires
-pattern-pass-requires c κs = let s = c .before .before .before .before .before in (refl, refl, refl, refl, s .pre .0, s .pre .1, s .pre .2)
+pattern-pass-requires c κs = let s = c .before .before .before .before .before in (refl, refl, refl, refl, s .pre .0, record { kind = s .pre .1 .kind; below = s .pre .1 .below; are = s .pre .1 .are }, s .pre .2, s .pre .3)
 
 highest-requires : tie.Need-highest-requires
 highest-requires c κs =
     let p = c .before .before .before .before .before .before .before .before in
     let h = served p in
-    (h .first .ready, h .second .ready, h .third .ready, h .fourth .ready, p .before .before .before .before .before .before .pre .3)
+    (h .first .ready, h .second .ready, h .third .ready, h .fourth .ready, p .before .before .before .before .before .before .pre .4)
 
 -- the pattern is one of the eight
 pattern-below : (c : tie.After-highest) → c .highest .result .pattern ≤ 7

@@ -22,6 +22,7 @@ use Rattle.envelope.proofs.Limits.{row-below, value-fits, weighed-most}
 use Rattle.envelope.proofs.Patterns.{pattern-in-range}
 use Rattle.envelope.proofs.Utilisation.{peak-own, peak-inside}
 use Rattle.sums.proofs.Gathered.{places-in-range}
+use Rattle.sums.proofs.Totals.{held-in-range}
 use Rattle.passes.specs.Passes.{ServesPatterns}
 use Rattle.passes.proofs.Served.{peak-served, fluid-served}
 use Rattle.naming.proofs.BestSets.{chosen-in-range}
@@ -51,7 +52,7 @@ in-range s = record { long = s .pre .0 .effects-long; range = s .pre .0 .effects
 -- the sums of the pass serve the eight patterns
 served : (c : tie.After-peak-of) → let s = c .before .before .before .before in let q = c .peak-of .ensures in
     ServesPatterns (q .s0) (q .s1) (q .s2) (q .s3) (kind s) (effect s) (s .args .p)
-served c = let p = c .before .before in let s = p .before .before in c .peak-of .ensures .pass .serves (kind s) (below s) (p .places-of .ensures)
+served c = let p = c .before .before in let s = p .before .before in c .peak-of .ensures .pass .serves (kind s) (below s) (p .places-of .ensures) (s .pre .1 .are)
 
 -- the pattern that governs
 peak-is : (c : tie.After-peak-of) → let s = c .before .before .before .before in
@@ -88,13 +89,13 @@ weights : (c : tie.After-pattern-weights) → WeightsInRange (c .pattern-weights
 weights c =
     let q = c .before .before .before in
     let s = q .before .before .before .before in
-    subst WeightsInRange (sym (c .pattern-weights .ensures)) (pattern-in-range (s .args .p) (q .peak-of .result .peak .pattern) (s .pre .1))
+    subst WeightsInRange (sym (c .pattern-weights .ensures)) (pattern-in-range (s .args .p) (q .peak-of .result .peak .pattern) (s .pre .2))
 
 value-small : (c : tie.After-pattern-weights) → natAbs (c .before .before .before .peak-of .result .peak .best .value) < 2 ^ 63
 value-small c =
     let s = c .before .before .before .before .before .before .before in
     subst (λ (b : Best). natAbs (b .value) < 2 ^ 63) (sym (best-is c))
-    (value-fits (s .args .s) (kind s) (weighed (c .pattern-weights .result) (effect s)) (s .pre .2)
+    (value-fits (s .args .s) (kind s) (weighed (c .pattern-weights .result) (effect s)) (s .pre .3)
     (weighed-most (s .args .effects .now) (c .pattern-weights .result) (in-range s) (weights c)))
 
 places-of-requires : tie.Need-places-of-requires
@@ -103,8 +104,13 @@ places-of-requires c κs = let s = c .before in record { long = s .pre .0 .kinds
 peak-of-requires : tie.Need-peak-of-requires
 peak-of-requires c κs =
     let p = c .before in
-    let s = p .before .before in
-    (record { kind = kind s; below = below s; are = p .places-of .ensures }, in-range s, s .pre .1, s .pre .2)
+    let s = p .before .before in (
+      held-in-range (s .args .totals .now) (s .args .kinds .now) (s .args .effects .now) (s .pre .1) (in-range s),
+      record { kind = kind s; below = below s; are = p .places-of .ensures; added = s .pre .1 .are },
+      in-range s,
+      s .pre .2,
+      s .pre .3,
+    )
 
 sets-by-requires : tie.Need-sets-by-requires
 sets-by-requires c κs =
@@ -126,7 +132,7 @@ extreme-requires c κs =
     let q = w .before .before .before in
     let p = q .before .before in
     let s = p .before .before in
-    sets-fit (s .args .s) (s .pre .2) (kind s) (below s) (p .places-of .result) (p .places-of .ensures) (weighed (w .pattern-weights .result) (effect s)) (q .peak-of .result .peak .best .row) (q .peak-of .result .fluid) (acts-is w) (x .sets-by .result) (x .sets-by .ensures)
+    sets-fit (s .args .s) (s .pre .3) (kind s) (below s) (p .places-of .result) (p .places-of .ensures) (weighed (w .pattern-weights .result) (effect s)) (q .peak-of .result .peak .best .row) (q .peak-of .result .fluid) (acts-is w) (x .sets-by .result) (x .sets-by .ensures)
 
 value-is : (c : tie.After-extreme) → c .extreme .result .value ≡ c .before .before .before .before .before .before .before .peak-of .result .peak .best .value
 value-is c =
@@ -154,7 +160,7 @@ returns c =
     let f : Peak → Extreme = λ z. extremeIn (s .args .s) (kind s) (weighed (patternOf (s .args .p) (z .pattern)) (effect s)) (z .best) in
     let peak = peakOf (patternBest (s .args .s) (kind s) (effect s) (s .args .p)) 7 in
     let is : x .extreme .result ≡ f peak =
-    extreme-is (s .args .s) (s .pre .2) (kind s) (below s) (p .places-of .result) (p .places-of .ensures) (weighed (w .pattern-weights .result) (effect s)) (q .peak-of .result .peak .best .row) (q .peak-of .result .fluid) (acts-is w) (y .sets-by .result) (y .sets-by .ensures)
+    extreme-is (s .args .s) (s .pre .3) (kind s) (below s) (p .places-of .result) (p .places-of .ensures) (weighed (w .pattern-weights .result) (effect s)) (q .peak-of .result .peak .best .row) (q .peak-of .result .fluid) (acts-is w) (y .sets-by .result) (y .sets-by .ensures)
     (x .extreme .result) (q .peak-of .result .peak .best .value) (x .extreme .ensures .1) (x .extreme .ensures .2) (x .extreme .ensures .3) (value-is x)
     ∙ ap (λ (v : Weights). extremeIn (s .args .s) (kind s) (weighed v (effect s)) (q .peak-of .result .peak .best)) (w .pattern-weights .ensures)
     ∙ ap f (peak-is q) in
@@ -178,7 +184,7 @@ returns c =
       serve = served q;
       numerator = m .magnitude .ensures ∙ ap natAbs (back (x .extreme .result .value) (extreme-small x) ∙ value-is x) ∙ ap (λ (z : Peak). natAbs (z .best .value)) (g .peak);
     } in
-    (used, utilisation-governs (s .args .s) (kind s) (past s) (effect s) (s .args .p) _ used (s .pre .2), from)
+    (used, utilisation-governs (s .args .s) (kind s) (past s) (effect s) (s .args .p) _ used (s .pre .3), from)
 
 pub utilisation-of-spec : {M : Type 1} → statement M
 utilisation-of-spec =

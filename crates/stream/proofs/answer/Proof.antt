@@ -8,17 +8,23 @@ use borrow.Author.Needs.{needs}
 use Rattle.stream.proofs.answer.Statement.{statement}
 use Rattle.stream.proofs.answer.Tie as tie
 
-add-t18 : tie.Need-add-t18
-add-t18 c =
+add-t16 : tie.Need-add-t16
+add-t16 c =
+    let f = c .before .before .before .before .before in
+    let a = f .before .before .before .before .before .before .before .before in
+    omega (arith, a .good .1 .1 .1 .0, f .read-in .ensures .1 .consumed, length-take (length (a .args .input .now) - a .args .p .consumed) (drop (a .args .p .consumed) (a .args .input .now)), length-drop (a .args .p .consumed) (a .args .input .now), a .pre .0 .consumed)
+
+add-t20 : tie.Need-add-t20
+add-t20 c =
     let f = c .before .before .before .before .before .before in
-    let a = f .before .before .before .before .before .before .before in
+    let a = f .before .before .before .before .before .before .before .before in
     omega (arith, f .read-in .ensures .1 .written, length-take (length (a .args .output .now) - a .args .p .written) (drop (a .args .p .written) (a .args .output .now)), length-drop (a .args .p .written) (a .args .output .now), a .pre .0 .written)
 
 returns : tie.Need-returns
 returns c =
     let f = c .before .before .before .before .before .before .before in
-    let a = f .before .before .before .before .before .before .before in
-    progressed-one (a .args .p) (a .args .effects .now) (a .args .input .now) (a .args .output .now) (a .pre .1) (f .read-in .ensures .0) (c .before .before .before .is-last .ensures)
+    let a = f .before .before .before .before .before .before .before .before in
+    progressed-one (a .args .p) (a .args .effects .now) (a .args .sums .now) (a .args .input .now) (a .args .output .now) (a .pre .1) (f .read-in .ensures .0) (c .before .before .before .is-last .ensures)
 
 pub answer-spec : {M : Type 1} → statement M
 answer-spec =
@@ -32,7 +38,7 @@ answer-spec =
     (λ c. search needs)
     (λ c κs. search needs)
     (λ c κs. search needs)
-    (λ c. search needs)
-    add-t18
+    add-t16
+    add-t20
     (λ c. search needs)
     returns)

@@ -10,16 +10,16 @@ same-length : tie.Need-same-length
 same-length c =
     let h = c .before .before .before .before .before .before .before in
     let a = h .before .before .before .before .before .before .before in
-    moved-long (a .answer-all .result .consumed) (a .before .before .before .before .before .before .before .read-some .ensures) (h .shift .ensures)
+    moved-long (a .answer-all .result .consumed) (a .before .before .before .before .before .before .before .before .read-some .ensures) (h .shift .ensures)
 
 returns : tie.Need-returns
 returns c =
     let h = c .before .before .before .before .before .before .before in
     let w = h .before .before in
     let a = w .before .before .before .before .before in
-    let q = a .before .before .before .before .before .before .before in
+    let q = a .before .before .before .before .before .before .before .before in
     let s = q .before .before .before .before .before in (
-      turned (s .args .s) (s .args .effects .now) (s .args .input .now) (s .args .output .now) (q .read-some .result .ended) (q .read-some .result .failed) (s .pre .2) (q .read-some .ensures)
+      turned (s .args .s) (s .args .effects .now) (s .args .sums .now) (s .args .input .now) (s .args .output .now) (q .read-some .result .ended) (q .read-some .result .failed) (s .pre .2) (q .read-some .ensures)
           (a .answer-all .ensures .0) (a .answer-all .ensures .1 .written) (w .write-all .ensures) (h .shift .ensures),
       (a .answer-all .ensures .1 .in-range, omega (arith, q .read-some .ensures .most), same-length c, search needs),
     )

@@ -13,10 +13,10 @@ with-capacities-requires c κs = capacities-range _ _ _ _ (sym (c .before .due-c
 
 returns : tie.Need-returns
 unfolding withCapacities
-returns c effects = part-none _ _ _ (sym (c .before .before .due-capacities .ensures) ∙ c .before .if1 .taken) (rw (c .with-capacities .ensures))
+returns c effects sums = part-none _ _ _ (sym (c .before .before .due-capacities .ensures) ∙ c .before .if1 .taken) (rw (c .with-capacities .ensures))
 
 returns-2 : tie.Need-returns-2
-returns-2 c effects = part-due _ _ _ (c .before .due-capacities .ensures) (c .if1 .left)
+returns-2 c effects sums = part-due _ _ _ (c .before .due-capacities .ensures) (c .if1 .left)
 
 pub replace-capacities-spec : {M : Type 1} → statement M
 replace-capacities-spec =

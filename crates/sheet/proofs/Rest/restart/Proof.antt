@@ -9,8 +9,8 @@ use Rattle.sheet.proofs.Rest.restart.Tie as tie
 returns : tie.Need-returns
 returns c =
     let z = c .before .before in
-    part-none _ _ _ (sym (z .before .before .before .due-settings .ensures) ∙ z .before .before .if1 .taken)
-    (rw (c .fresh .ensures, c .before .of .ensures) (rest-whole _ (z .clear-all .ensures)))
+    part-none _ _ _ (sym (c .before .before .before .before .before .before .due-settings .ensures) ∙ c .before .before .before .before .before .if1 .taken)
+    (rw (c .fresh .ensures, c .before .of .ensures) (rest-whole _ (z .clear-all .ensures .0) (z .clear-all .ensures .1)))
 
 returns-2 : tie.Need-returns-2
 returns-2 c = part-due _ _ _ (c .before .due-settings .ensures) (c .if1 .left)

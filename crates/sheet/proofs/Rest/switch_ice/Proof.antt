@@ -5,7 +5,7 @@ use Rattle.sheet.proofs.Rest.switch_ice.Statement.{statement}
 use Rattle.sheet.proofs.Rest.switch_ice.Tie as tie
 
 returns : tie.Need-returns
-returns c effects = rw (c .before .before .due-switch .ensures, c .before .switched .ensures) at (c .replace-settings .ensures effects)
+returns c effects sums = rw (c .before .before .due-switch .ensures, c .before .switched .ensures) at (c .replace-settings .ensures effects sums)
 
 pub switch-ice-spec : {M : Type 1} → statement M
 switch-ice-spec = tie.close (tie.spec (λ c κs. search needs) (λ c κs. search needs) (λ c κs. search needs) returns)

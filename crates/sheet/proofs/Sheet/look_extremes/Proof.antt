@@ -8,15 +8,15 @@ use Rattle.sheet.proofs.Sheet.look_extremes.Statement.{statement}
 use Rattle.sheet.proofs.Sheet.look_extremes.Tie as tie
 
 look-extremes-requires : tie.Need-look-extremes-requires
-look-extremes-requires c κs = rw (c .before .rest .ensures) (c .before .before .before .pre)
+look-extremes-requires c κs = rw (c .before .before .rest .ensures) (c .before .before .before .before .before .pre)
 
 returns : tie.Need-returns
 unfolding lookedExtremes
 returns c =
-    let s = c .before .before .before .before in
-    let e = rw (c .before .before .rest .ensures) at (c .look-extremes .ensures) in
+    let s = c .before .before .before .before .before .before in
+    let e = rw (c .before .before .before .rest .ensures) at (c .look-extremes .ensures) in
     (ap (λ (x : Answer). record { answer = x; sheet = s .args .self }) (e .0), e .1)
 
 pub look-extremes-spec : {M : Type 1} → statement M
 look-extremes-spec =
-    tie.close (tie.spec (λ c κs. search needs) (λ c. search needs) look-extremes-requires returns)
+    tie.close (tie.spec (λ c κs. search needs) (λ c. search needs) (λ c. search needs) look-extremes-requires returns)

@@ -6,7 +6,7 @@ use Rattle.sheet.proofs.Sheet.set_straining.Statement.{statement}
 use Rattle.sheet.proofs.Sheet.set_straining.Tie as tie
 
 returns : tie.Need-returns
-returns c = c .with-effects .ensures ∙ rw (c .before .before .rest .ensures) at (c .before .set-straining .ensures (c .before .before .before .before .args .self .effects))
+returns c = c .with-effects .ensures ∙ rw (c .before .before .rest .ensures) at (c .before .set-straining .ensures (c .before .before .before .before .before .args .self .effects) (c .before .before .before .before .before .args .self .sums))
 
 pub set-straining-spec : {M : Type 1} → statement M
 set-straining-spec =

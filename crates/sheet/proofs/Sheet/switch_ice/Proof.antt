@@ -6,7 +6,7 @@ use Rattle.sheet.proofs.Sheet.switch_ice.Statement.{statement}
 use Rattle.sheet.proofs.Sheet.switch_ice.Tie as tie
 
 returns : tie.Need-returns
-returns c = c .with-effects .ensures ∙ rw (c .before .before .rest .ensures) at (c .before .switch-ice .ensures (c .before .before .before .before .args .self .effects))
+returns c = c .with-effects .ensures ∙ rw (c .before .before .rest .ensures) at (c .before .switch-ice .ensures (c .before .before .before .before .before .args .self .effects) (c .before .before .before .before .before .args .self .sums))
 
 pub switch-ice-spec : {M : Type 1} → statement M
 switch-ice-spec =
