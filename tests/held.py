@@ -69,6 +69,20 @@ class Engine:
     def sum_of(self, kind, station):
         return self.sums[kind, station]
 
+    def effects_of(self, case, station):
+        return self.sheet.eff(case, station)
+
+    def capacities_of(self, station):
+        return self.sheet.cap[station]
+
+    def better(self, value, best, station):
+        """Whether a row's value is taken for the best of the rows before it: of equal rows the first is named."""
+        return best is None or value > best[0]
+
+    def leading(self, group, station):
+        """The case of a group that acts, of (its factored effect with the sign turned, case): the first of equal ones."""
+        return min(group)
+
     def restored(self):
         """The sheet read from its saved form."""
         saved, self.sheet, self.sums = self.sheet.saved(), m.Sheet(), no_sums()
@@ -80,7 +94,7 @@ class Engine:
         s, best = self.sheet, None
         weighed = lambda effects: sum(w * x for w, x in zip(weights, effects))
         held = {kind: weighed(self.sum_of(kind, station)) for kind in HELD}
-        cases = [(c, k, weighed(s.eff(c, station))) for c, k in sorted(s.kind.items())]
+        cases = [(c, k, weighed(self.effects_of(c, station))) for c, k in sorted(s.kind.items())]
         for row, columns in sorted(m.rows(s.method, s.zone, s.ice).items()):
             factor = {k: s.factor(row, columns, k) for k in set(s.kind.values())}
             value, acting, low, lead = 0, 0, 0, {}
@@ -99,14 +113,14 @@ class Engine:
                 elif x > 0:
                     lead.setdefault(m.GROUPS[k], []).append((-factor[k] * x, c))
             for group in lead.values():
-                x, c = min(group)
+                x, c = self.leading(group, station)
                 value, acting = value - x, acting | 1 << c
-            if best is None or value > best[0]:
+            if self.better(value, best, station):
                 best = value, row, acting, low
         return best
 
     def utilisation(self, station):
-        nc, yc, zc = self.sheet.cap[station]
+        nc, yc, zc = self.capacities_of(station)
         unit, denominator = (yc * zc, nc * zc, nc * yc), 1000 * nc * yc * zc
         found = [self.greatest(station, [-u if p >> k & 1 else u for k, u in enumerate(unit)]) for p in range(8)]
         best = max(found, key=lambda x: x[0])
@@ -125,10 +139,10 @@ WRONG = {}  # error -> an engine that makes it
 AFTER_3 = 'a refusal 3 sets the sums to 0'  # the service stops at a 3, so the lists of `frames` cannot show it
 
 
-def wrong(name, base=Engine):
-    """Adds an engine that has this method in the place of the right one to the table."""
+def wrong(name, base=Engine, table=WRONG):
+    """Adds an engine that has this method in the place of the right one to a table."""
     def add(method):
-        WRONG[name] = type('Wrong', (base,), {method.__name__: method})
+        table[name] = type('Wrong', (base,), {method.__name__: method})
     return add
 
 
@@ -319,7 +333,8 @@ def answered(readings):
 def stored_of_frames():
     """The stored fields and their answers, as they stand: the last field that is answered is one of 60,001 bytes."""
     stream, answers = (m.fields_of(open(path, 'rb').read()) for path in make.FILES)
-    assert make.held() in b''.join(stream), 'crates/frames/stdin is not that of make.py'
+    for part in (make.held(), make.offices()):
+        assert part in b''.join(stream), 'crates/frames/stdin is not that of make.py'
     assert answers[-1] == b'\x81\0\1\3' and len(stream[len(answers) - 1]) == 60004
     return list(zip(stream, answers))
 
@@ -346,8 +361,9 @@ def taken_right(name, engine):
     return ok
 
 
-def caught(name, engine):
-    found = [difference(engine(), readings) for readings in lists_on_held_sums()]
+def caught(name, engine, lists):
+    """Whether the lists of `frames` and those of `recheck_run` each catch the engine, with its line printed."""
+    found = [difference(engine(), readings) for readings in lists]
     ok = None not in found[name == AFTER_3:]
     told = ['not caught' if n is None else 'caught at reading %d' % n for n in found]
     print('%s: wrong: %s: %s of `frames`, %s of `recheck_run`' % ('ok' if ok else 'FAILED', name, *told), flush=True)
@@ -357,10 +373,13 @@ def caught(name, engine):
 def tried():
     """Whether each engine is taken as it should be, with its line printed."""
     ok = [taken_right('sums held', Engine), taken_right('sums held, each field on a saved sheet', Saved)]
-    return ok + [caught(name, engine) for name, engine in WRONG.items()]
+    return ok + [caught(name, engine, lists_on_held_sums()) for name, engine in WRONG.items()]
+
+
+def finish(ok):
+    print('%d passed, %d failed' % (sum(ok), len(ok) - sum(ok)))
+    sys.exit(not all(ok))
 
 
 if __name__ == '__main__':
-    ok = tried()
-    print('%d passed, %d failed' % (sum(ok), len(ok) - sum(ok)))
-    sys.exit(not all(ok))
+    finish(tried())

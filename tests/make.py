@@ -450,6 +450,55 @@ def held():
     return b
 
 
+# SCOPE 11.6: the answers to R1, to the cut field at its end too, and those that R2 and R3 have in their place, by number from 0 on.
+R1_OUT = [h('800000')] * 11 + [
+    h('860022 0000000000030D40 02 00000003 00000000 FFFFFFFFFFFE5250 07 00000005 00000000'),
+    h('860022 00000000000023F0 02 00000003 00000000 0000000000001194 07 00000001 00000000'),
+    h('860022 0000000000001900 05 00000007 00000000 FFFFFFFFFFFFEF98 01 00000001 00000000'),
+    h('87001A 0000000108E20F00 0000000165A0BC00 01 02 00000003 00000000'),
+    h('860022 0000000000007D00 05 00000005 00000000 0000000000002328 07 00000001 00000000'),
+    h('87001A 0000000024F47300 000000003B9ACA00 01 05 00000005 00000000'),
+    h('81000109'), h('8100010C'), h('81000101'), h('81000102'), h('800000'), h('800000'), h('800000'),
+    h('860022 00000000000222E0 01 00000001 00000000 FFFFFFFFFFFE5250 07 00000005 00000000'),
+    h('87001A 00000000C26E2B80 0000000165A0BC00 01 01 00000001 00000000'), h('81000103')]
+R2_OUT = {15: h('860022 FFFFFFFFFFFEE6C0 07 00000001 00000000 FFFFFFFFFFFE3AE0 05 00000005 00000000'),
+          16: h('87001A 000000000169D8D0 0000000000001770 00 05 00000005 00000000')}
+R3_OUT = {11: h('860022 00000000000311F0 02 00000003 00000000 FFFFFFFFFFFE55D4 07 00000005 00000000'),
+          14: h('87001A 000000010A504500 0000000165A0BC00 01 02 00000003 00000000'),
+          24: h('860022 0000000000022858 01 00000001 00000000 FFFFFFFFFFFE55D4 07 00000005 00000000'),
+          25: h('87001A 00000000C4196A80 0000000165A0BC00 01 01 00000001 00000000')}
+R_OUT = [b''.join(other.get(n, a) for n, a in enumerate(R1_OUT)) for other in ({}, R2_OUT, R3_OUT)]
+
+
+def answers(fields):
+    return [a for _, a in run(b''.join(fields))[1]]
+
+
+def check_pair(fields, station, second):
+    """SCOPE 9.5 on a list and a second one with other values at other stations, and on one with other values at the station itself. That
+    it is of something: looks at other stations differ in the former, and looks at the station in the latter."""
+    first = answers(fields)
+    apart = m.changed(fields, first, answers(second))
+    assert apart and not apart & {None, station}, (station, apart)
+    own = m.varied(fields, m.accepted(fields), {station}, random.Random(station))
+    assert m.changed(fields, first, answers(own)) == {station}, station
+
+
+def offices():
+    """Point 13: SCOPE 9.5. R1, R2 and R3; pairs of lists of all tags, in both methods and every zone, on all stations, with fields that are
+    refused and D and F cases that are dropped."""
+    r1, r2, r3 = (answers(fields + [h('030008')]) for fields in m.offices_worked())
+    assert [b''.join(x) for x in (r1, r2, r3)] == R_OUT
+    fields = m.offices_worked()[0] + [h('030008')]
+    assert m.changed(fields, r1, r2) == {1} and m.changed(fields, r1, r3) == {0}
+    for pair in m.office_pairs():
+        check_pair(*pair)
+    pairs = m.fields_of(b''.join(b''.join(fields) for fields, _, _ in m.office_pairs()))
+    looked = {m.looked_at_by(b) for b in pairs}
+    assert looked == {None, *range(16)} and {b[0] for b in pairs} >= set(range(1, 10)), looked
+    return b''.join(m.offices())
+
+
 def long_fields():
     """Whole fields of the greatest length: an unknown tag, a known one; the sheet stays."""
     look = f(6, 0, 0) + f(7, 0)
@@ -461,7 +510,8 @@ def long_fields():
 
 POINTS = {'1_worked_exchange_p2': lambda: P2_IN, '2_each_refusal': refusals, '3_refusal_orders': orders, '4_p1_to_p10': frames_by_hand,
           '5_methods_zones_live_options': every_setting, '6_groups': groups, '7_long_fields': long_fields,
-          '8_ice': ice, '9_fluid': fluid, '10_pair': pair, '11_straining': straining, '12_held': held}
+          '8_ice': ice, '9_fluid': fluid, '10_pair': pair, '11_straining': straining, '12_held': held,
+          '13_offices': offices}
 BUFFER = 65536  # what `frames` reads in one turn, at most
 
 
@@ -479,6 +529,7 @@ MORE = {'2_empty_input': (b'', b''),
         '2_length_60000_unknown_tag_is_1': (f(0x7F, bytes(60000)) + P2_IN, h('81000101') + P2_OUT),
         '2_length_60000_known_tag_is_2': (f(1, bytes(60000)) + P2_IN, h('81000102') + P2_OUT),
         '2_length_60001_wholly_there_is_3': (P2_IN + f(2, bytes(60001)) + P2_IN, P2_OUT + h('81000103'))}
+MORE.update({'13_R%d' % n: (b''.join(fields) + h('030008'), out) for n, (fields, out) in enumerate(zip(m.offices_worked(), R_OUT), 1)})
 NAMES = list(POINTS) + ['2_' + k for k in CUT] + list(MORE)
 
 

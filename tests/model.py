@@ -456,6 +456,13 @@ HELD_WORKED = [
      ([f(2, 2, D)], (140000, 1, 0b0101), (-210000, 8, 0b1101))],
 ]
 
+# SCOPE 11.6: what R1, R2 and R3 have of their own: effects of D at station 0; at station 1 effects of D, effects of W, capacities.
+OFFICES_WORKED = [
+    ((100, 5, -3), (10, 0, 0), (20, 30, 0), (100, 100, 100)),
+    ((100, 5, -3), (-80, 7, 3), (-20, 1000, -10000), (1, 2, 3)),
+    ((101, 5, -3), (10, 0, 0), (20, 30, 0), (100, 100, 100)),
+]
+
 
 def value(rng):
     return rng.choice([0, 0, 1, -1, 10000, -10000, 100, 100, -100, 9999, rng.randint(-10000, 10000), rng.randint(-300, 300),
@@ -816,6 +823,95 @@ def held():
     return out + looked_at(one_place(), (0, 1))
 
 
+def offices_worked():
+    """R1, R2 and R3 of SCOPE 11.6, each without the cut field at its end."""
+    first = [f(1, 1, 0, 0), f(2, 0, D), f(2, 1, L), f(2, 2, W)]
+    north = [f(3, 1, 0, effects(50, 2, 4)), f(3, 2, 0, effects(-200, 1, 6)), f(5, 0, caps(300, 200, 100))]
+    looks = [f(6, 0, 0), f(6, 0, 1), f(6, 0, 2), f(7, 0), f(6, 1, 0), f(7, 1)]
+    refused = [f(3, 1, 1, effects(10001, 0, 0)), f(4, 5), f(0x7F), f(6, 0)]
+    last = [f(9, word(1500)), f(8, 1), f(4, 1), f(6, 0, 0), f(7, 0)]
+    own = lambda dead, far_dead, far_wind, far_caps: [f(3, 0, 0, effects(*dead))] + north + [
+        f(3, 0, 1, effects(*far_dead)), f(3, 2, 1, effects(*far_wind)), f(5, 1, caps(*far_caps))]
+    return [first + own(*values) + looks + refused + last for values in OFFICES_WORKED]
+
+
+def often_equal(rng):
+    """An effect: many are equal, so that several combinations reach an extreme and the one named could go by another station."""
+    return rng.choice([60, 60, -60, value(rng)])
+
+
+def office_list(rng, turn):
+    """A list on four stations next to each other, and the one of them that SCOPE 9.5 is tried at. After each step there are looks at that
+    station and at another."""
+    others = [(4 * turn + 14 + k) % 16 for k in range(4)]
+    station, bad = others.pop(turn % 4), itertools.cycle(BAD[turn::4])
+    out = [f(1, turn % 2 + 1, turn // 2 % 2, (turn + 1) % 3)] + [f(8, 1)] * (turn < 2) + [f(9, word(1000 - 200 * (turn % 2)))]
+    kinds = [D, F, W, W, rng.choice([D, F]), rng.randint(D, T)]
+    filled = dict(zip(rng.sample(range(32), len(kinds)), kinds))
+    out += [f(2, c, k) for c, k in filled.items()]
+    for st in [station] + others:
+        out += [f(3, c, st, effects(*(often_equal(rng) for _ in range(3)))) for c in filled if rng.random() < .7]
+        if st == station or rng.random() < .7:
+            out.append(f(5, st, caps(*(capacity(rng) for _ in range(3)))))
+    for step, case in enumerate([None, None, None, *list(filled)[:2], None]):
+        other = others[step % 3]
+        out += [f(4, case)] if case in filled else edits(rng, filled, rng.choice([station, other]), bad)
+        out += [f(6, station, step % 3), f(7, station), f(6, other, rng.randint(0, 2)) if step < 3 else f(7, other)]
+    return out, station
+
+
+def accepted(fields):
+    """Whether each of these fields is accepted, from a fresh sheet on."""
+    s, out = Sheet(), []
+    for b in fields:
+        out.append(not refusal(s, b))
+        if b[0] not in (6, 7):
+            s, _ = serve(s, b, None)
+    return out
+
+
+def varied(fields, are_accepted, stations, rng):
+    """The fields with other effects and capacities at these stations where they are accepted: what SCOPE 9.5 lets two lists differ in."""
+    def other(b):
+        if b[0] == 3 and b[4] in stations:
+            return b[:5] + effects(*(often_equal(rng) for _ in range(3)))
+        if b[0] == 5 and b[3] in stations:
+            return b[:4] + caps(*(capacity(rng) for _ in range(3)))
+        return b
+    return [other(b) if ok else b for b, ok in zip(fields, are_accepted)]
+
+
+def all_but(station):
+    return set(range(16)) - {station}
+
+
+def looked_at_by(b):
+    """The station that a field of tag 06 or 07 is for, or None: a wrong length or a cut leaves it for none."""
+    return b[3] if b[:3] in (b'\6\0\2', b'\7\0\1') else None
+
+
+def changed(fields, first, second):
+    """Where the answers to two lists differ, the second with other values in some of these fields: the stations looked at, with None
+    for any other field. By SCOPE 9.5 this has neither None nor a station whose effects and capacities are the same."""
+    assert len(fields) == len(first) == len(second), (len(fields), len(first), len(second))
+    return {looked_at_by(b) for b, x, y in zip(fields, first, second) if x != y}
+
+
+def office_pairs():
+    """Lists, each with the station that the second of a pair leaves as it is, and that second list."""
+    rng, out = random.Random(95), []
+    for turn in range(4):
+        fields, station = office_list(rng, turn)
+        out.append((fields, station, varied(fields, accepted(fields), all_but(station), rng)))
+    return out
+
+
+def offices():
+    """Pairs of lists on SCOPE 9.5."""
+    pairs = [one for first, _, second in office_pairs() for one in (first, second)]
+    return [b for fields in offices_worked() + pairs for b in fields]
+
+
 def saved_after(edits):
     """The fields of the saved form of the sheet that these edits make."""
     s = Sheet()
@@ -944,7 +1040,7 @@ def readings(rng):
     fluid = [b for fields in fluid_sheets() for b in fields] + fluid_rows() + fluid_utilisations()
     straining = [b for fields in straining_sheets() for b in fields] + straining_set() + straining_utilisations()
     groups = together(settings=[(1, 1), (2, 1), (2, 2)], sets=TOGETHER[4:])
-    fields = before_any_settings() + BAD + generate(rng) + groups + saved_forms() + ice + fluid + straining + held()
+    fields = before_any_settings() + BAD + generate(rng) + groups + saved_forms() + ice + fluid + straining + offices() + held()
     return fields + long_fields() + [bytes.fromhex('01000301')]
 
 

@@ -1,9 +1,9 @@
-//! The frames worked by hand (SCOPE 11.1), the pair of extremes (SCOPE 4.7), every refusal, what a sheet holds, and saving.
+//! The frames worked by hand (SCOPE 11.1), the pair of extremes (SCOPE 4.7), two offices (SCOPE 9.5), every refusal, what a sheet holds, and saving.
 
 use frames::bytes::{answer, run, ANSWER, SAVED};
 use frames::{
     Answer, Capacities, Component, Effects, Extremes, Field, Kind, LiveOption, Method, Refusal,
-    Settings, Sheet, Zone,
+    Settings, Sheet, Utilisation, Zone,
 };
 
 /// Cases from place 0 on, with effects on N at station 0.
@@ -366,6 +366,17 @@ fn every_kind(settings: Settings, ice: bool) -> Sheet {
     made(&fields)
 }
 
+/// Such a sheet in all settings, without ice and with it.
+fn every_sheet() -> impl Iterator<Item = Sheet> {
+    let settings = every_start().flat_map(|field| [false, true].map(|ice| (field, ice)));
+    settings.map(|(field, ice)| {
+        let Field::Start(settings) = field else {
+            panic!("{field:?} has no settings")
+        };
+        every_kind(settings, ice)
+    })
+}
+
 /// The sheet that these fields make, each of which is accepted.
 fn made(fields: &[Field]) -> Sheet {
     let mut sheet = Sheet::default();
@@ -374,10 +385,16 @@ fn made(fields: &[Field]) -> Sheet {
     sheet
 }
 
+/// The sheet that the fields of a sheet make, each of them edited.
+fn edited(sheet: &Sheet, edit: impl Fn(&mut Field)) -> Sheet {
+    let mut fields: Vec<Field> = sheet.fields().collect();
+    fields.iter_mut().for_each(edit);
+    made(&fields)
+}
+
 /// The sheet with the sign of every effect turned.
 fn turned(sheet: &Sheet) -> Sheet {
-    let mut fields: Vec<Field> = sheet.fields().collect();
-    for field in &mut fields {
+    edited(sheet, |field| {
         if let Field::SetEffects { effects, .. } = field {
             let Effects { n, my, mz } = *effects;
             *effects = Effects {
@@ -386,19 +403,34 @@ fn turned(sheet: &Sheet) -> Sheet {
                 mz: -mz,
             };
         }
-    }
-    made(&fields)
+    })
+}
+
+/// The sheet with other effects and capacities at these stations.
+fn varied(sheet: &Sheet, stations: &[u8]) -> Sheet {
+    edited(sheet, |field| match field {
+        Field::SetEffects {
+            station, effects, ..
+        } if stations.contains(station) => {
+            let Effects { n, my, mz } = *effects;
+            *effects = Effects {
+                n: mz,
+                my: n,
+                mz: my,
+            };
+        }
+        Field::SetCapacities {
+            station,
+            capacities,
+        } if stations.contains(station) => capacities.n += 1,
+        _ => {}
+    })
 }
 
 // SCOPE 4.7
 #[test]
 fn every_effect_turned() {
-    let settings = every_start().flat_map(|field| [false, true].map(|ice| (field, ice)));
-    for (field, ice) in settings {
-        let Field::Start(settings) = field else {
-            panic!("{field:?} has no settings")
-        };
-        let first = every_kind(settings, ice);
+    for first in every_sheet() {
         let second = turned(&first);
         assert_ne!(first, second);
         assert_eq!(first, turned(&second));
@@ -417,6 +449,28 @@ fn turned_at(first: &Sheet, second: &Sheet, station: u8) {
     }
     let ratio = |sheet: &Sheet| sheet.utilisation(station).map(|u| (u.numerator, u.pass));
     assert_eq!(ratio(first), ratio(second));
+}
+
+// SCOPE 9.5
+#[test]
+fn other_stations_differ() {
+    for first in every_sheet() {
+        let others = varied(&first, &[0, 15]);
+        let own = varied(&first, &[7]);
+        assert_eq!(looks(&first, 7), looks(&others, 7));
+        assert_ne!(looks(&first, 7), looks(&own, 7));
+        for station in [0, 15] {
+            assert_ne!(looks(&first, station), looks(&others, station));
+            assert_eq!(looks(&first, station), looks(&own, station));
+        }
+    }
+}
+
+/// The extremes of each component and the utilisation at a station, with the combinations named.
+fn looks(sheet: &Sheet, station: u8) -> (Vec<Extremes>, Utilisation) {
+    let extremes = Component::ALL.iter();
+    let extremes = extremes.map(|&component| sheet.extremes(station, component).unwrap());
+    (extremes.collect(), sheet.utilisation(station).unwrap())
 }
 
 #[test]

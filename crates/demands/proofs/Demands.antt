@@ -33,7 +33,7 @@ use Rattle.decoding.proofs.Decoding.{decoded-answer}
 use Rattle.decoding.proofs.Fits.{extremes-fit, utilisation-fits}
 use Rattle.demands.specs.Readings.{Made, ReadOn, Readings, worksOut, SaveOn, Restores}
 use Rattle.demands.specs.Demands.{Demand1, Demand2, lookExtremes, lookUtilisation, reported, ExtremesAnswered, UtilisationAnswered, Demand3, Demands}
-use Rattle.demands.proofs.Due.{due-most, none-due, due-refused, refused-due, full-consumed, short-consumed, field-consumed}
+use Rattle.demands.proofs.Due.{not-accepted, due-most, none-due, due-refused, refused-due, full-consumed, short-consumed, field-consumed}
 use Rattle.demands.proofs.Readings.{take-over, works-out, worked-in-range, restores, restores-unique, long-enough, saving-refused, saving-written}
 
 -- ---- a sheet in range
@@ -86,9 +86,6 @@ module _ (w : Sheet) (h : InRange w) where
         greatest = utilisation-governs-at w h t a .greatest;
       }
 
-  refused-not-accepted : (n : ℕ) → answer.Refused n ≡ answer.Accepted → ⊥
-  refused-not-accepted n e = let z : _≡_ {A = ℕ} 0 1 = cc in omega arith
-
   -- what the definition of a reading says of its answer and of its places
   answer-of : (m : Made) → ReadOn w m → m .result .answer ≡ readField (m .input) (length (m .out)) w .answer
   answer-of m f = ap (λ (r : Reading). r .answer) (f .reading)
@@ -111,7 +108,7 @@ module _ (w : Sheet) (h : InRange w) where
     field = λ m f a b. consumed-of m f ∙ field-consumed (m .input) (length (m .out)) w a b;
     unchanged = λ m n f e.
         ap (λ (r : Reading). r .sheet) (f .reading)
-        ∙ refused-unchanged (m .input) (length (m .out)) w (λ a. refused-not-accepted n (sym e ∙ ap (λ (r : Reading). r .answer) (f .reading) ∙ a));
+        ∙ refused-unchanged (m .input) (length (m .out)) w (λ a. not-accepted (sym e ∙ ap (λ (r : Reading). r .answer) (f .reading) ∙ a));
     consumed = λ m f. within (m .input) (m .out) w h f .consumed;
     written = λ m f. within (m .input) (m .out) w h f .written;
     goes-on = λ m f. within (m .input) (m .out) w h f .in-range;

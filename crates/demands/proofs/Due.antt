@@ -1,21 +1,19 @@
 -- The refusals of a reading: which answers are refusals, their numbers, and how much a refused reading consumes.
 -- Assumes nothing.
-use Prim.Native.Nat.{ℕ, _+_, _-_, _≤_, _<_}
+use Prim.Native.Nat.{ℕ, _+_, _≤_}
 use native.Mathlib.Omega.{arith}
 use mathlib.Core.Bool.{Bool, true, false, false≢true, cond, not}
 use mathlib.Core.List.{List}
 use mathlib.Core.Logic.{_⊎_, inl, inr, ⊎-elim}
-use mathlib.Core.Path.{_≡_, refl, sym, ap, _∙_, subst}
+use mathlib.Core.Path.{_≡_, refl, sym, _∙_}
 use borrow.Author.Tests.{eq-eqb, ne-eqb, eqb-false}
-use lib.Dec.{eqb, ltb}
+use lib.Dec.{eqb, ltb, lit<}
 use lib.ListN.{length}
-use Rattle.wire.proofs.Cases.{either, eq-or-ne}
-use Rattle.refusals.specs.Refusals.{on, firstDue}
+use Rattle.wire.proofs.Cases.{eq-or-ne}
+use Rattle.refusals.specs.Refusals.{firstDue}
+use Rattle.refusals.proofs.Fits as chain
 use Rattle.sheet.specs.declared.Sheet.{Sheet}
-use Rattle.sheet.specs.declared.Answer.{Answer}
 use Rattle.sheet.specs.declared.Answer.the-variants as answer
-use Rattle.sheet.specs.Looks.{unlessDue}
-use Rattle.headers.specs.Headers.{headerOf}
 use Rattle.answers.specs.Answers.{answerRoom, answerBytes}
 use Rattle.fields.specs.Field.{readField}
 use Rattle.fields.proofs.InOrder.{by-header}
@@ -37,6 +35,10 @@ module _ (s : Sheet) (b : List ℕ) where
 
       look-utilisation : {x : _} → answer.Utilisation x ≡ answer.Refused n → ⊥
       look-utilisation e = let z : _≡_ {A = ℕ} 0 1 = cc in omega arith
+
+-- a refusal is no acceptance
+pub not-accepted : {n : ℕ} → answer.Refused n ≡ answer.Accepted → ⊥
+not-accepted e = let z : _≡_ {A = ℕ} 0 1 = cc in omega arith
 
 same-number : {a b : ℕ} → answer.Refused a ≡ answer.Refused b → a ≡ b
 same-number e = cc
@@ -71,10 +73,24 @@ module _ (input : List ℕ) (room : ℕ) (s : Sheet) where
   pub due-most : due input room s ≤ 15
   due-most = reading-sorted .most
 
-  -- where none is due, the tag's answer, which is no refusal
+  -- where none is due, the tag is known, and none of its own is due
+  pub none-own : due input room s ≡ 0 → (unknownTag (tagOf input) ≡ false) × (firstDue (tagAt (tagOf input) .refusals s (bodyOf input)) ≡ 0)
+  unfolding due
+  none-own e =
+      let a = chain.none-due (ltb room answerRoom) 14 _ (lit< tt) e in
+      let b = chain.none-due (isCut input) 3 _ (lit< tt) (a .1) in
+      let c = chain.none-due (unknownTag (tagOf input)) 1 _ (lit< tt) (b .1) in
+      (c .0, chain.none-due (not (eqb (lengthIn input) (tagAt (tagOf input) .size))) 2 _ (lit< tt) (c .1) .1)
+
+  -- the answer is the tag's, which is no refusal
   pub none-due : due input room s ≡ 0 → readField input room s .answer ≡ tagAt (tagOf input) .answer s (bodyOf input)
   unfolding readField
   none-due e = rw (eq-eqb (due input room s) 0 e)
+
+  -- and so is what becomes of the sheet
+  pub none-after : due input room s ≡ 0 → readField input room s .sheet ≡ tagAt (tagOf input) .after s (bodyOf input)
+  unfolding readField
+  none-after e = rw (eq-eqb (due input room s) 0 e)
 
   pub due-refused : (n : ℕ) → due input room s ≡ n → (n ≡ 0 → ⊥) → readField input room s .answer ≡ answer.Refused n
   unfolding readField
@@ -86,6 +102,10 @@ module _ (input : List ℕ) (room : ℕ) (s : Sheet) where
       go : (due input room s ≡ 0) ⊎ (due input room s ≡ 0 → ⊥) → (due input room s ≡ n) × (n ≡ 0 → ⊥)
       go (inl z) = absurd (no-refusal s (bodyOf input) (tagOf input) n (sym (none-due z) ∙ e))
       go (inr ne) = let q : due input room s ≡ n = same-number (sym (due-refused (due input room s) refl ne) ∙ e) in (q, λ z. ne (q ∙ z))
+
+  pub accepted-due : readField input room s .answer ≡ answer.Accepted → due input room s ≡ 0
+  accepted-due e =
+      ⊎-elim (λ z. z) (λ ne. absurd (not-accepted (sym (due-refused (due input room s) refl ne) ∙ e))) (eq-or-ne (due input room s) 0)
 
   -- 14 consumes and writes nothing, 3 consumes all that is left, and another refusal the field
   pub full-consumed : due input room s ≡ 14 → (readField input room s .consumed ≡ 0) × (readField input room s .written ≡ 0)

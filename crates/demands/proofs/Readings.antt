@@ -50,6 +50,10 @@ any-readings (c ∷ cs) s h =
       in-range = r .in-range;
     }
 
+-- a reading keeps the range
+pub read-in-range : {s : Sheet} {m : Made} → InRange s → ReadOn s m → InRange (m .result .sheet)
+read-in-range {s} {m} h r = subst (λ (x : Reading). InRange (x .sheet)) (sym (r .reading)) (read-kept (m .input) (length (m .out)) s h)
+
 after-in-range : (s : Sheet) (gs : List Given) → InRange s → InRange (sheetFrom s gs)
 unfolding sheetFrom
 after-in-range s [] h = h
@@ -62,6 +66,9 @@ works-out (next {m} {ms} f r) = works-out r ∙ ap (λ (x : Reading). sheetFrom 
 
 pub worked-in-range : (ms : List Made) → InRange (worksOut ms)
 worked-in-range ms = after-in-range freshSheet (map given ms) fresh-kept
+
+pub readings-in-range : {ms : List Made} {s : Sheet} → Readings freshSheet ms s → InRange s
+readings-in-range {ms} r = subst InRange (sym (works-out r)) (worked-in-range ms)
 
 -- ---- bytes read through, with room for an answer
 with-room : {w : List ℕ} {s : Sheet} {m : Made} → ReadsFrom w s m → m .result ≡ readField w answerRoom s
@@ -79,7 +86,7 @@ through {s = s} (field {b} {bs} e r) =
     record { list = m ∷ more .list; readings = next read (more .readings) }
 
 pub range-is-made : RangeIsMade
-range-is-made s = (λ h. through (in-range-made h .1), λ m. subst InRange (sym (works-out (m .readings))) (worked-in-range (m .list)))
+range-is-made s = (λ h. through (in-range-made h .1), λ m. readings-in-range (m .readings))
 
 pub restores : {w : List ℕ} {s t : Sheet} → ReadThrough w s t → Restores w s t
 restores end = no-more

@@ -50,10 +50,11 @@ pub record EffectsInRange (effects : List ℤ) : Type 0 where
   pub long : length effects ≡ caseCount * componentCount
   pub range : (i : ℕ) → natAbs (getD effects i (pos 0)) ≤ effectLimit
 
--- the totals of the cases of D and of F, three of each
+-- the greatest total: every case counts once
 abbrev pub totalMost : ℕ
 totalMost = caseCount * effectLimit
 
+-- the totals of the cases of D and of F, three of each
 pub record TotalsInRange (totals : List ℤ) : Type 0 where
   pub long : length totals ≡ 2 * componentCount
   pub range : (i : ℕ) → natAbs (getD totals i (pos 0)) ≤ totalMost

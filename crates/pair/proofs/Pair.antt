@@ -2,7 +2,6 @@
 -- Assumes nothing.
 use Prim.Native.Nat.{ℕ, _≤_, _<_}
 use mathlib.Core.Path.{_≡_, sym, ap, _∙_, subst}
-use mathlib.Core.List.{List}
 use mathlib.Core.Logic.{⊎-elim}
 use native.Mathlib.Omega.{arith}
 use lib.IntN.{ℤ, pos, negℤ, negℤ-negℤ}
@@ -13,12 +12,11 @@ use Rattle.standard.specs.Combination.{caseCount}
 use Rattle.envelope.specs.Range.{effectOf, stationCount, componentCount}
 use Rattle.envelope.specs.Envelope.{governingOf, extremeIn, extremesOf}
 use Rattle.sheet.specs.declared.Sheet.{Sheet}
-use Rattle.sheet.specs.Sheet.{freshSheet, kindAt}
+use Rattle.sheet.specs.Sheet.{kindAt}
 use Rattle.sheet.specs.Looks.{stationEffects, extremesAt}
 use Rattle.sheet.specs.Range.{InRange}
 use Rattle.sheet.proofs.Stations.{station-in-range, effect-seen}
-use Rattle.demands.specs.Readings.{Made, Readings}
-use Rattle.demands.proofs.Readings.{works-out, worked-in-range}
+use Rattle.demands.proofs.Readings.{readings-in-range}
 use Rattle.demands.proofs.Demands.{look-answered}
 use Rattle.pair.specs.Pair.{SignsTurned, Opposite, Pair, LawOfThePair}
 use Rattle.pair.proofs.Turned.{turned-made}
@@ -74,9 +72,5 @@ module _ (s v : Sheet) (h : InRange s) (g : InRange v) (turned : SignsTurned s v
             record { former = extremesAt s t j; turned = extremesAt v t j; answered = (x .0, y .0); bytes = (x .1, y .1); opposite = opposite-at t j a b };
       }
 
--- the sheet after a list is in range
-after : {ms : List Made} {s : Sheet} → Readings freshSheet ms s → InRange s
-after {ms} r = subst InRange (sym (works-out r)) (worked-in-range ms)
-
 pub law-of-the-pair : LawOfThePair
-law-of-the-pair ms s r = (turned-made (after r), λ ns v q turned. pair s v (after r) (after q) turned)
+law-of-the-pair ms s r = (turned-made (readings-in-range r), λ ns v q turned. pair s v (readings-in-range r) (readings-in-range q) turned)

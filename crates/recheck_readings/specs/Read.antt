@@ -9,3 +9,8 @@ pub record ReadIn (input out : List ℕ) (r : Read) : Type 0 where
   pub in-range : InRange (r .sheet)
   pub consumed-in : r .consumed ≤ length input
   pub written-in : r .written ≤ length out
+
+-- the end of a reading's bytes
+pub record Within (start n end : ℕ) : Type 0 where
+  pub from : start ≤ end
+  pub to : end ≤ n

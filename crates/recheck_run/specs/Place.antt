@@ -9,8 +9,3 @@ use Rattle.sheet.specs.Range.{InRange}
 pub record Place (s : Sheet) (start : ℕ) (input : List ℕ) : Type 0 where
   pub in-range : InRange s
   pub start-in : start ≤ length input
-
--- the end of a reading's bytes
-pub record Within (start n end : ℕ) : Type 0 where
-  pub from : start ≤ end
-  pub to : end ≤ n

@@ -1,6 +1,7 @@
 // Runs the library's reader over the stored fields on standard input, has each answer checked by the second checker (crate
-// recheck_answers), the library's other calls compared with it, its extremes with those of the sheet with signs turned and the sums
-// that its sheet holds with those of the working sheet, and writes a summary.
+// recheck_answers), the library's other calls compared with it, its extremes with those of the sheet with signs turned, the sums
+// that its sheet holds with those of the working sheet and its answers with those to fields with other values at other stations, and
+// writes a summary.
 use recheck_answers::check_answer;
 use recheck_answers::sheet_after;
 use recheck_bytes::UNWRITTEN;
@@ -14,6 +15,8 @@ use recheck_pairs::turned;
 use recheck_readings::fresh_sheet;
 use recheck_readings::read_short;
 use recheck_readings::read_whole;
+use recheck_readings::reading_end;
+use recheck_readings::remaining;
 use recheck_saving::saved_form;
 use recheck_sheet::WorkingSheet;
 use recheck_sums::SUMS;
@@ -25,15 +28,20 @@ use recheck_tally::answers_buffer;
 use recheck_tally::input_buffer;
 use recheck_tally::summary;
 use recheck_tally::with_list;
+use recheck_tally::with_lists_compared;
 use recheck_tally::with_reading;
 use recheck_tally::with_short;
+use recheck_two_lists::ROOM;
+use recheck_two_lists::at_stations;
+use recheck_two_lists::worked_lists_agree;
 use sheet::Sheet;
+use std::num::wrapping_add_u64;
 use std::num::wrapping_add_usize;
 ghost use mathlib.Core.Path.{_≡_};
 ghost use Prim.Native.Nat.{_≤_, _<_};
 ghost use lib.ListN.{length};
 ghost use Rattle.sheet.specs.Range.{InRange};
-ghost use Rattle.recheck_run.specs.Place.{Place, Within};
+ghost use Rattle.recheck_run.specs.Place.{Place};
 
 // The exported calls are given more bytes to save into than any sheet has.
 const SAVED_ROOM: usize = 8192;
@@ -178,14 +186,6 @@ fn checked(
     }
 }
 
-// Where a reading's bytes end: a field of length 60,001 that is wholly there has 60,004, and no reading is given more.
-fn reading_end(start: usize, n: usize) -> usize
-    requires { ⌜ start ≤ n ⌝ }
-    ensures { λ r. ⌜ Within start n r ⌝ }
-{
-    if n - start < 60004 { n } else { start + 60004 }
-}
-
 // One reading with room for every answer, checked.
 fn read_and_check(run: Run, input: &[u8], list: &[u8]) -> Run
     requires { ⌜ Place (run .sheet) (run .start) (now input) ⌝ }
@@ -261,6 +261,9 @@ fn first_run() -> Run
         sums: 0,
         refused: 0,
         short: 0,
+        unaffected: 0,
+        elsewhere: 0,
+        affected: 0,
         differences: 0,
         first: 0,
     };
@@ -272,15 +275,8 @@ fn first_run() -> Run
         tally,
     }
 }
-// The turns left after one: none where the input is at its end.
-fn remaining(more: bool, left: usize) -> usize
-    requires { ⌜ 0 < left ⌝ }
-    ensures { λ r. ⌜ r < left ⌝ }
-{
-    if more { left - 1 } else { 0 }
-}
 
-// Reads the fields one after the other. Each has at least one byte, so there are no more turns than bytes.
+// Reads the fields one after the other.
 fn run_all(input: &[u8], list: &[u8]) -> Tally
     requires { ⌜ length (now list) < 1000000 ⌝ }
 {
@@ -306,10 +302,21 @@ fn run_both(input: &[u8]) -> Tally {
     run_all(input, b"")
 }
 
+// The stored fields with other values at all stations but one, for each, and at one station alone, for each; and the worked lists.
+fn compare_lists(t: Tally, stored: [u8; ROOM], n: usize) -> Tally
+    requires { ⌜ n ≤ 262144 ⌝ }
+{
+    let others = at_stations(stored, n, false);
+    let own = at_stations(stored, n, true);
+    let failed = wrapping_add_u64(others.failed, own.failed);
+    let all = wrapping_add_u64(failed, !worked_lists_agree() as u64);
+    with_lists_compared(t, others.same, others.different, own.different, all)
+}
+
 // The stored input is smaller than the buffer.
 fn main() {
     let mut buffer = input_buffer();
     let n = io::read_full(0, &mut buffer);
     let t = run_both(&buffer[..n]);
-    summary(t);
+    summary(compare_lists(t, buffer, n));
 }

@@ -5,7 +5,9 @@ use std::num::wrapping_add_u64;
 
 // Counts for the summary: readings, answered looks (tags 06 and 07) that were enumerated, those with too many load
 // cases for it, pairs of extremes compared with those of the sheet with signs turned, readings that left a sheet with a sum
-// other than 0, refusals due, refusals 14, differences, and the number of the first reading that differs (0: none).
+// other than 0, refusals due, refusals 14, looks that are the same with other values at the other stations, looks at those other
+// stations that differ then, looks that differ with other values at their own station, differences, and the number of the first
+// reading that differs (0: none).
 pub struct Tally {
     pub readings: u64,
     pub looks: u64,
@@ -14,6 +16,9 @@ pub struct Tally {
     pub sums: u64,
     pub refused: u64,
     pub short: u64,
+    pub unaffected: u64,
+    pub elsewhere: u64,
+    pub affected: u64,
     pub differences: u64,
     pub first: u64,
 }
@@ -68,6 +73,22 @@ pub fn with_list(t: Tally, listed: usize, n: usize) -> Tally {
     compared(u, n <= listed, t.readings)
 }
 
+// The tally after the comparisons of two lists (SCOPE 9.5), with their counts. A failure among them is told of at the last reading.
+pub fn with_lists_compared(
+    t: Tally,
+    unaffected: u64,
+    elsewhere: u64,
+    affected: u64,
+    failed: u64,
+) -> Tally {
+    let mut u = compared(t, failed == 0, t.readings);
+    u.unaffected = unaffected;
+    u.elsewhere = elsewhere;
+    u.affected = affected;
+    u.differences = wrapping_add_u64(t.differences, failed);
+    u
+}
+
 fn put_count(n: u64, words: &[u8]) {
     io::print_decimal(1, n);
     io::write_all(1, words);
@@ -86,6 +107,15 @@ pub fn summary(t: Tally) {
     put_count(t.sums, b" sheets with a sum other than 0, ");
     put_count(t.refused, b" refusals, ");
     put_count(t.short, b" short outputs refused, ");
+    put_count(
+        t.unaffected,
+        b" looks the same with other values at the other stations, ",
+    );
+    put_count(t.elsewhere, b" looks there different, ");
+    put_count(
+        t.affected,
+        b" looks different with other values at their own station, ",
+    );
     put_count(t.differences, b" differences\n");
 }
 

@@ -1,21 +1,21 @@
 -- The factor that the sheet holds is the one in force, so the demands speak of it.
 -- Assumes nothing.
-use Prim.Native.Nat.{ℕ, zero, suc}
-use native.Mathlib.Omega.{arith}
-use mathlib.Core.Path.{_≡_, refl, sym, ap, _∙_, subst}
-use mathlib.Core.Bool.{Bool, true, false, false≢true, cond}
+use Prim.Native.Nat.{ℕ}
+use mathlib.Core.Path.{_≡_, refl, ap, _∙_, subst}
+use mathlib.Core.Bool.{Bool, true, false, cond}
 use mathlib.Core.List.{List, [], _∷_, map}
-use lib.Dec.{eqb, ltb, lit<}
+use lib.Dec.{eqb}
 use borrow.Author.Tests.{eqb-true}
 use Rattle.wire.specs.Bytes.{wordAt}
-use Rattle.refusals.proofs.Fits.{none-due, inside}
+use Rattle.refusals.proofs.Fits.{inside}
 use Rattle.sheet.specs.declared.Sheet.{Sheet}
 use Rattle.sheet.specs.Sheet.{freshSheet, fresh, withKind, withEffects, withCapacities, withSettings, withStraining}
 use Rattle.tags.specs.Tags.{tagAt, unknownTag}
-use Rattle.answers.specs.Answers.{answerRoom}
-use Rattle.fields.specs.Field.{tagOf, bodyOf, isCut, due, readField}
+use Rattle.tags.proofs.Laws.{by-number}
+use Rattle.fields.specs.Field.{tagOf, bodyOf, due, readField}
 use Rattle.demands.specs.Readings.{Given, sheetFrom, given, worksOut}
 use Rattle.demands.specs.Demands.{ExtremesAnswered, UtilisationAnswered}
+use Rattle.demands.proofs.Due.{none-own}
 use Rattle.demands.proofs.Demands.{demands}
 use Rattle.straining.specs.InForce.{acceptedOn, factorBy, inForceFrom, inForce, FactorInForce, EarlierFactorForgotten}
 
@@ -26,31 +26,16 @@ factorOn s = s .settings .straining
 -- what each tag of the table makes of it
 by-tag : (s : Sheet) (b : List ℕ) (tag : ℕ) → unknownTag tag ≡ false → factorOn (tagAt tag .after s b) ≡ cond (eqb tag 1) 1000 (cond (eqb tag 9) (wordAt b 0) (factorOn s))
 unfolding fresh withKind withEffects withCapacities withSettings
-by-tag s b zero e = absurd (false≢true (sym e))
-by-tag s b (suc zero) e = refl
-by-tag s b (suc (suc zero)) e = refl
-by-tag s b (suc (suc (suc zero))) e = refl
-by-tag s b (suc (suc (suc (suc zero)))) e = refl
-by-tag s b (suc (suc (suc (suc (suc zero))))) e = refl
-by-tag s b (suc (suc (suc (suc (suc (suc zero)))))) e = refl
-by-tag s b (suc (suc (suc (suc (suc (suc (suc zero))))))) e = refl
-by-tag s b (suc (suc (suc (suc (suc (suc (suc (suc zero)))))))) e = refl
-by-tag s b (suc (suc (suc (suc (suc (suc (suc (suc (suc zero))))))))) e = refl
-by-tag s b (suc (suc (suc (suc (suc (suc (suc (suc (suc (suc k)))))))))) e = absurd (omega (arith, inside (suc (suc (suc (suc (suc (suc (suc (suc (suc (suc k)))))))))) 9 e .1))
-
-known-tag : (input : List ℕ) (room : ℕ) (s : Sheet) → due input room s ≡ 0 → unknownTag (tagOf input) ≡ false
-unfolding due
-known-tag input room s e =
-    let a = none-due (ltb room answerRoom) 14 _ (lit< tt) e in
-    let b = none-due (isCut input) 3 _ (lit< tt) (a .1) in
-    none-due (unknownTag (tagOf input)) 1 _ (lit< tt) (b .1) .0
+by-tag s b tag e =
+    let k = inside tag 9 e in
+    by-number (λ n. factorOn (tagAt n .after s b) ≡ cond (eqb n 1) 1000 (cond (eqb n 9) (wordAt b 0) (factorOn s))) refl refl refl refl refl refl refl refl refl tag (k .0) (k .1)
 
 after-reading : (s : Sheet) (g : Given) → factorOn (readField (g .input) (g .room) s .sheet) ≡ cond (acceptedOn s g) (factorBy (g .input) (factorOn s)) (factorOn s)
 unfolding readField
 after-reading s g = go (acceptedOn s g) refl
   where
     go : (t : Bool) → acceptedOn s g ≡ t → factorOn (cond t (tagAt (tagOf (g .input)) .after s (bodyOf (g .input))) s) ≡ cond t (factorBy (g .input) (factorOn s)) (factorOn s)
-    go true e = by-tag s (bodyOf (g .input)) (tagOf (g .input)) (known-tag (g .input) (g .room) s (eqb-true (due (g .input) (g .room) s) 0 e))
+    go true e = by-tag s (bodyOf (g .input)) (tagOf (g .input)) (none-own (g .input) (g .room) s (eqb-true (due (g .input) (g .room) s) 0 e) .0)
     go false e = refl
 
 -- the factor held is the one in force

@@ -1,6 +1,6 @@
 -- The lines of the table of tags.
 -- Assumes nothing.
-use Prim.Native.Nat.{ℕ, zero, suc, _-_, _≤_}
+use Prim.Native.Nat.{ℕ, zero, suc, _-_, _≤_, _<_}
 use mathlib.Core.Bool.{Bool, true, false, cond}
 use mathlib.Core.Path.{_≡_, refl, sym, ap, subst}
 use lib.Dec.{eqb}
@@ -52,6 +52,20 @@ by-tags P p1 p2 p3 p4 p5 p6 p7 p8 p9 tag = at (tag - 1)
     at (suc (suc (suc (suc (suc (suc zero)))))) = p7
     at (suc (suc (suc (suc (suc (suc (suc zero))))))) = p8
     at (suc (suc (suc (suc (suc (suc (suc (suc k)))))))) = ninth k
+
+-- what holds of the tags 01 to 09 holds of a tag among them, whatever tags there are beside them
+pub by-number : (P : ℕ → Type 0) → P 1 → P 2 → P 3 → P 4 → P 5 → P 6 → P 7 → P 8 → P 9 → (tag : ℕ) → 0 < tag → tag ≤ 9 → P tag
+by-number P p1 p2 p3 p4 p5 p6 p7 p8 p9 zero a b = absurd (omega arith)
+by-number P p1 p2 p3 p4 p5 p6 p7 p8 p9 (suc zero) a b = p1
+by-number P p1 p2 p3 p4 p5 p6 p7 p8 p9 (suc (suc zero)) a b = p2
+by-number P p1 p2 p3 p4 p5 p6 p7 p8 p9 (suc (suc (suc zero))) a b = p3
+by-number P p1 p2 p3 p4 p5 p6 p7 p8 p9 (suc (suc (suc (suc zero)))) a b = p4
+by-number P p1 p2 p3 p4 p5 p6 p7 p8 p9 (suc (suc (suc (suc (suc zero))))) a b = p5
+by-number P p1 p2 p3 p4 p5 p6 p7 p8 p9 (suc (suc (suc (suc (suc (suc zero)))))) a b = p6
+by-number P p1 p2 p3 p4 p5 p6 p7 p8 p9 (suc (suc (suc (suc (suc (suc (suc zero))))))) a b = p7
+by-number P p1 p2 p3 p4 p5 p6 p7 p8 p9 (suc (suc (suc (suc (suc (suc (suc (suc zero)))))))) a b = p8
+by-number P p1 p2 p3 p4 p5 p6 p7 p8 p9 (suc (suc (suc (suc (suc (suc (suc (suc (suc zero))))))))) a b = p9
+by-number P p1 p2 p3 p4 p5 p6 p7 p8 p9 (suc (suc (suc (suc (suc (suc (suc (suc (suc (suc k)))))))))) a b = absurd (omega arith)
 
 -- what holds of each line of the table of tags holds of the field that runs
 module _ (P : Answered → Type 0) (s : Sheet) (tag : ℕ) (b : List ℕ) where

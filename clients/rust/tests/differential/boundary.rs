@@ -4,6 +4,7 @@ use frames::raw::{frames_answer, frames_count, frames_run, Ran};
 
 use crate::compare;
 use crate::lists::field;
+use crate::offices::{self, Looks, Varied};
 use crate::pair;
 use crate::random::Random;
 use crate::reference::{self, fields, Sheet, LONGEST_ANSWER, SAVED_ROOM, STATIONS};
@@ -246,6 +247,22 @@ pub fn check_turned_state(list: &[u8]) -> Result<u64, String> {
     });
     pair::check(fields(&looks).len(), &first, &second)
         .map_err(|reason| format!("looks at the state after the list: {reason}"))
+}
+
+/// The list and one with other values at the varied stations, which is compared with the reference too.
+fn check_varied(list: &[u8], varied: Varied, random: &mut Random) -> Result<Looks, String> {
+    let second = offices::list(list, varied, random);
+    check_list(&second)?;
+    offices::check(list, &answers(list), &answers(&second), varied)
+}
+
+/// Other values at all stations but one, and at that one alone; returns the looks of each.
+pub fn check_offices(list: &[u8], seed: u64) -> Result<[Looks; 2], String> {
+    let mut random = Random::new(seed);
+    let station = offices::station(list, &mut random);
+    let others = check_varied(list, Varied::AllBut(station), &mut random)?;
+    let own = check_varied(list, Varied::Only(station), &mut random)?;
+    Ok([others, own])
 }
 
 /// Tag 06 for each component and tag 07, at each station; without capacities tag 07 is refused.

@@ -7,6 +7,7 @@ mod combination;
 mod compare;
 mod enumerate;
 mod lists;
+mod offices;
 mod pair;
 mod pipe;
 mod random;
@@ -66,6 +67,10 @@ fn main() -> ExitCode {
         println!("refusal {number} never occurred");
         run.summary.differences += 1;
     }
+    if run.summary.lacks_varied_looks() {
+        println!("no looks with other values at some stations");
+        run.summary.differences += 1;
+    }
     run.summary.print(seed, started.elapsed());
     ExitCode::from(u8::from(run.summary.differences > 0))
 }
@@ -97,6 +102,7 @@ impl Run {
             worked::straining(),
             worked::held(),
             worked::turned(),
+            worked::offices(),
             worked::refusals(),
             worked::lengths(),
         ];
@@ -182,6 +188,19 @@ impl Run {
             self.summary.refusals[14] += refused.get();
         }
         self.check_pairs(list, index);
+        if index % 2 == 1 {
+            self.check_offices(list, seed);
+        }
+    }
+
+    /// The list with other effects and capacities at other stations, and at one station alone.
+    fn check_offices(&mut self, list: &[u8], seed: u64) {
+        let looks = Cell::default();
+        let check = |list: &[u8]| boundary::check_offices(list, seed).map(|both| looks.set(both));
+        self.check_boundary("a list with other stations varied", list, &check);
+        let [others, own] = looks.get();
+        self.summary.others_varied.add(others);
+        self.summary.own_varied.add(own);
     }
 
     /// The sign of every effect turned: in the list, and for a share of the lists in a state too.
@@ -227,6 +246,10 @@ impl Run {
         let check = |list: &[u8]| program.check_turned(list, seed).map(|n| pairs.set(n));
         self.check_process("the program, every effect turned", &batch, seed, &check);
         self.summary.pairs_of_program += pairs.get();
+        let looks = Cell::default();
+        let check = |list: &[u8]| program.check_offices(list, seed).map(|n| looks.set(n));
+        self.check_process("the program, other stations varied", &batch, seed, &check);
+        self.summary.others_varied_of_program.add(looks.get());
     }
 
     fn check_process(

@@ -6,6 +6,7 @@ use std::process::{Child, ChildStdin, Command, Stdio};
 use std::thread;
 
 use crate::compare;
+use crate::offices::{self, Looks, Varied};
 use crate::pair;
 use crate::random::Random;
 use crate::reference::{fields, first_field, load, Sheet};
@@ -62,6 +63,17 @@ impl Program {
         let output = self.answers(input, seed)?;
         let turned = self.answers(&pair::turned_list(input), seed)?;
         pair::check(fields(input).len(), &output, &turned)
+    }
+
+    /// A list and one with other values at all stations but one, each in a process of its own; the second is compared with the reference
+    /// too. Returns the looks.
+    pub fn check_offices(&self, input: &[u8], seed: u64) -> Result<Looks, String> {
+        let mut random = Random::new(seed);
+        let varied = Varied::AllBut(offices::station(input, &mut random));
+        let second = offices::list(input, varied, &mut random);
+        let output = self.answers(&second, seed)?;
+        compare::list(&mut Sheet::fresh(), &second, &output)?;
+        offices::check(input, &self.answers(input, seed)?, &output, varied)
     }
 }
 

@@ -4,6 +4,7 @@ use std::time::Duration;
 
 use crate::combination::{D, F, T};
 use crate::lists::Sort;
+use crate::offices::Looks;
 use crate::reference::{Answer, Sheet};
 
 #[derive(Default)]
@@ -28,6 +29,9 @@ pub struct Summary {
     pub pairs_of_lists: u64,
     pub pairs_of_states: u64,
     pub pairs_of_program: u64,
+    pub others_varied: Looks,
+    pub own_varied: Looks,
+    pub others_varied_of_program: Looks,
     pub differences: u64,
 }
 
@@ -103,6 +107,17 @@ impl Summary {
             .collect()
     }
 
+    /// Whether no look was the same, or none differed, where a second list has other values at some stations.
+    pub fn lacks_varied_looks(&self) -> bool {
+        let sorts = [
+            self.others_varied,
+            self.own_varied,
+            self.others_varied_of_program,
+        ];
+        let is_empty = |looks: Looks| looks.same == 0 || looks.differing == 0;
+        sorts.into_iter().any(is_empty)
+    }
+
     pub fn print(&self, seed: u64, time: Duration) {
         let line = |name: &str, value: u64| println!("{name:<36}{value:>12}");
         println!();
@@ -131,6 +146,14 @@ impl Summary {
         line("pairs of extremes, by lists", self.pairs_of_lists);
         line("  by saved states", self.pairs_of_states);
         line("  through the program", self.pairs_of_program);
+        for (name, looks) in [
+            ("other stations varied", self.others_varied),
+            ("one station varied", self.own_varied),
+            ("others, program", self.others_varied_of_program),
+        ] {
+            line(&format!("{name}: looks the same"), looks.same);
+            line("  at varied stations, differing", looks.differing);
+        }
         line("seed", seed);
         println!("{:<36}{:>12.1}", "seconds", time.as_secs_f64());
         println!("{} differences", self.differences);

@@ -1,5 +1,5 @@
-//! Fixed lists: the frames worked by hand, sheets with ice, with F, with T, with D and F cases dropped and set again, and with every
-//! effect turned, the small inputs of the table of refusals, and fields at the limits of a length.
+//! Fixed lists: the frames worked by hand, sheets with ice, with F, with T, with D and F cases dropped and set again, with every effect
+//! turned, and with other values at another station, the small inputs of the table of refusals, and fields at the limits of a length.
 
 use std::ops::RangeInclusive;
 
@@ -307,6 +307,61 @@ pub fn turned() -> Vec<Example> {
         extremes("P2 turned", cases(PLAIN, &p2), Extremes(110_000, -250_000)),
         extremes("P5 turned", cases(PLAIN, &[(W, -100), (HP, 50)]), Extremes(80_000, -55_000)),
         extremes("an empty tank, turned", cases(PLAIN, &[(E, 100), (F, -30)]), Extremes(100_000, -42_000)),
+    ]
+}
+
+/// R1, R2 and R3 of SCOPE 11.6, up to their looks.
+#[rustfmt::skip]
+fn office_lists() -> [Vec<u8>; 3] {
+    let north = |dead| [
+        field(1, &PLAIN), field(2, &[0, D]), field(2, &[1, L]), field(2, &[2, W]),
+        field(3, &[0, 0, 0, dead, 0, 5, 0xFF, 0xFD]), field(3, &[1, 0, 0, 50, 0, 2, 0, 4]),
+        field(3, &[2, 0, 0xFF, 0x38, 0, 1, 0, 6]), field(5, &[0, 0x01, 0x2C, 0, 200, 0, 100]),
+    ].concat();
+    let south = [
+        field(3, &[0, 1, 0, 10, 0, 0, 0, 0]), field(3, &[2, 1, 0, 20, 0, 30, 0, 0]), field(5, &[1, 0, 100, 0, 100, 0, 100]),
+    ].concat();
+    let other = [
+        field(3, &[0, 1, 0xFF, 0xB0, 0, 7, 0, 3]), field(3, &[2, 1, 0xFF, 0xEC, 0x03, 0xE8, 0xD8, 0xF0]),
+        field(5, &[1, 0, 1, 0, 2, 0, 3]),
+    ].concat();
+    [(100, &south), (100, &other), (101, &south)].map(|(dead, south)| [north(dead), south.clone()].concat())
+}
+
+// SCOPE 11.6
+#[rustfmt::skip]
+pub fn offices() -> Vec<Example> {
+    let [r1, r2, r3] = &office_lists();
+    let then = |name, list: &[u8], last: &[u8], expected| Example {
+        name,
+        list: [list, last].concat(),
+        expected,
+    };
+    let [n, my, mz] = [0, 1, 2].map(|component| field(6, &[0, component]));
+    let [here, there] = [0, 1].map(|station| field(7, &[station]));
+    let refused = [field(3, &[1, 1, 0x27, 0x11, 0, 0, 0, 0]), field(4, &[5]), field(0x7F, &[]), field(6, &[0])].concat();
+    let dropped = [refused, field(9, &[0x05, 0xDC]), field(8, &[1]), field(4, &[1]), n.clone(), here.clone()].concat();
+    let cut = [&dropped[..], &[3, 0, 8]].concat();
+    let of_six = |numerator| Utilisation(numerator, 6_000_000_000, true);
+    vec![
+        then("R1, N", r1, &n, Extremes(200_000, -110_000)),
+        then("R2, N", r2, &n, Extremes(200_000, -110_000)),
+        then("R3, N", r3, &n, Extremes(201_200, -109_100)),
+        then("R1, My", r1, &my, Extremes(9_200, 4_500)),
+        then("R2, My", r2, &my, Extremes(9_200, 4_500)),
+        then("R1, Mz", r1, &mz, Extremes(6_400, -4_200)),
+        then("R2, Mz", r2, &mz, Extremes(6_400, -4_200)),
+        then("R1, utilisation", r1, &here, of_six(4_444_000_000)),
+        then("R2, utilisation", r2, &here, of_six(4_444_000_000)),
+        then("R3, utilisation", r3, &here, of_six(4_468_000_000)),
+        then("R1, station 1", r1, &there, Utilisation(620_000_000, 1_000_000_000, true)),
+        then("R2, station 1", r2, &there, Utilisation(23_714_000, 6_000, false)),
+        then("R3, station 1", r3, &there, Utilisation(620_000_000, 1_000_000_000, true)),
+        then("R1, L dropped", r1, &dropped, of_six(3_262_000_000)),
+        then("R2, L dropped", r2, &dropped, of_six(3_262_000_000)),
+        then("R3, L dropped", r3, &dropped, of_six(3_290_000_000)),
+        then("R1, cut", r1, &cut, Bytes(vec![0x81, 0, 1, 3])),
+        then("R2, cut", r2, &cut, Bytes(vec![0x81, 0, 1, 3])),
     ]
 }
 

@@ -1,0 +1,5 @@
+pub mod Held
+pub mod Tags
+pub mod Readings
+pub mod Fields
+pub mod Offices
