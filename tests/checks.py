@@ -4,11 +4,13 @@ import collections
 import contextlib
 import functools
 import os
+import random
 import select
 import struct
 import subprocess
 import sys
 import tempfile
+import threading
 import time
 import make
 
@@ -101,6 +103,46 @@ def ended(p, limit=LIMIT):
         return p.wait(limit)
     except subprocess.TimeoutExpired:
         raise Failed('still running after %g s' % limit) from None
+
+
+def pieces_random(b, seed):
+    r, out, i = random.Random(seed), [], 0
+    while i < len(b):
+        n = min(len(b) - i, r.choice([1, 2, 3, 7, 40, 500, 5000, 65536, 70000]))
+        out.append(b[i:i + n])
+        i += n
+    return out
+
+
+WAYS = {'whole': lambda b: [b], 'a byte at a time': lambda b: [b[i:i + 1] for i in range(len(b))],
+        'in random pieces (1)': lambda b: pieces_random(b, 1), 'in random pieces (2)': lambda b: pieces_random(b, 2)}
+
+
+def collected(end):
+    """A thread that takes all that comes, and the list that holds it afterwards."""
+    got = []
+    taker = threading.Thread(target=lambda: got.append(end.read()))
+    taker.start()
+    return taker, got
+
+
+def feed(binary, pieces, pause):
+    """The program run to its end on a stream that comes in these pieces, with a pause after each."""
+    with started(binary) as p:
+        takers = [collected(p.stdout), collected(p.stderr)]
+        try:
+            for piece in pieces:
+                while piece:
+                    piece = piece[p.stdin.write(piece):]
+                if pause:
+                    time.sleep(pause)
+            p.stdin.close()
+        except BrokenPipeError:
+            pass  # the program stopped before the end, as the service does after a 3
+        status = ended(p)
+        for taker, _ in takers:
+            taker.join()
+        return Outcome(takers[0][1][0], takers[1][1][0], status)
 
 
 def take(end, count, limit=LIMIT, most=65536):

@@ -4,50 +4,10 @@ is whole. Exit status 1 where that fails."""
 import functools
 import random
 import select
-import threading
-import time
 import checks
-from checks import CUT, LONG, P2, TESTS, Outcome, agrees, due, ended, expect, holds, repeated, same, started
+import model
+from checks import CUT, LONG, P2, TESTS, WAYS, Outcome, agrees, due, ended, expect, feed, holds, repeated, same, started
 from model import LENGTHS, f
-
-
-def pieces_random(b, seed):
-    r, out, i = random.Random(seed), [], 0
-    while i < len(b):
-        n = min(len(b) - i, r.choice([1, 2, 3, 7, 40, 500, 5000, 65536, 70000]))
-        out.append(b[i:i + n])
-        i += n
-    return out
-
-
-WAYS = {'whole': lambda b: [b], 'a byte at a time': lambda b: [b[i:i + 1] for i in range(len(b))],
-        'in random pieces (1)': lambda b: pieces_random(b, 1), 'in random pieces (2)': lambda b: pieces_random(b, 2)}
-
-
-def collected(end):
-    """A thread that takes all that comes, and the list that holds it afterwards."""
-    got = []
-    taker = threading.Thread(target=lambda: got.append(end.read()))
-    taker.start()
-    return taker, got
-
-
-def feed(binary, pieces, pause):
-    with started(binary) as p:
-        takers = [collected(p.stdout), collected(p.stderr)]
-        try:
-            for piece in pieces:
-                while piece:
-                    piece = piece[p.stdin.write(piece):]
-                if pause:
-                    time.sleep(pause)
-            p.stdin.close()
-        except BrokenPipeError:
-            pass  # the service stopped after a 3
-        status = ended(p)
-        for taker, _ in takers:
-            taker.join()
-        return Outcome(takers[0][1][0], takers[1][1][0], status)
 
 
 def random_fields(seed):
@@ -59,6 +19,9 @@ def random_fields(seed):
     return b
 
 
+# P2 with names between its fields, from the shortest and the longest on, and with lengths that no name has.
+P2_NAMED = b''.join(b + model.name(n, 'n' * (n + 1)) + model.name(31 - n, 'n' * (24 - n)) + f(model.NAME) + f(model.NAME, bytes(26 + n))
+                    for n, b in enumerate(model.fields_of(P2)))
 STREAMS = {  # name -> a function that gives the stream and its answers
     'empty': lambda: (b'', b''),
     'P2': lambda: repeated(1),
@@ -69,6 +32,7 @@ STREAMS = {  # name -> a function that gives the stream and its answers
     'a body of 60,000 with a wrong length': lambda: (f(1, bytes(60000)) + P2, bytes.fromhex('81000102') + due(P2)),
     'P2 500 times': lambda: repeated(500),
     '30,000 empty bodies': lambda: (bytes.fromhex('7F0000') * 30000, bytes.fromhex('81000101') * 30000),
+    'P2 with names': lambda: (P2_NAMED, due(P2_NAMED)),
     '4,000 looks': lambda: (f(6, 0, 0) * 4000, due(f(6, 0, 0)) * 4000),
 }
 for seed in (1, 2, 3):

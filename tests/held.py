@@ -333,7 +333,7 @@ def answered(readings):
 def stored_of_frames():
     """The stored fields and their answers, as they stand: the last field that is answered is one of 60,001 bytes."""
     stream, answers = (m.fields_of(open(path, 'rb').read()) for path in make.FILES)
-    for part in (make.held(), make.offices()):
+    for part in (make.held(), make.offices(), make.names()):
         assert part in b''.join(stream), 'crates/frames/stdin is not that of make.py'
     assert answers[-1] == b'\x81\0\1\3' and len(stream[len(answers) - 1]) == 60004
     return list(zip(stream, answers))

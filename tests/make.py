@@ -1,11 +1,13 @@
 #!/usr/bin/env python3
-"""Makes the stored input and output of `frames` in crates/frames; compare.py takes further streams from here.
+"""Makes the stored input and output of `frames` in crates/frames, and by drawing.py those of `case_names`; compare.py takes further streams
+from here.
 The program is not needed: expected bytes are those of docs/SCOPE.md and docs/FIELDS.md, or are worked out by enumerating every
 admissible combination (model.py, made apart from the library)."""
 import functools
 import os
 import random
 import struct
+import drawing
 import model as m
 from stations import STATIONS
 from model import D, F, HP, HV, L, LR, S, R, W, E, FA, DI, WI, T, f, effects, caps, word
@@ -144,6 +146,10 @@ CUT = {  # each ends with a 3; P2's bytes after a length above 60,000 are not an
     'length_60001_at_once_and_stop': h('01EA61') + P2_IN, 'length_65535_at_once_and_stop': P2_IN + h('01FFFF') + P2_IN,
     '3_before_1_cut_unknown_tag': h('7F0001'), '3_before_1_long_unknown_tag': h('FFEA61') + P2_IN, '3_before_2_cut_wrong_length': h('04000200'),
     '3_before_2_long_wrong_length': h('04EA61') + P2_IN, '3_before_4_cut': h('0100030300'), '3_before_5_cut': h('03000820'), '3_before_6_cut': h('06000210'),
+    'name_header_cut_after_1_byte': h('60'), 'name_header_cut_after_2_bytes': h('6000'), 'name_header_alone': h('600002'),
+    'name_cut': h('60000500444541'), 'name_cut_after_its_case': h('60000200'), '3_before_2_cut_name_of_no_bytes': h('600001'),
+    '3_before_2_cut_name_of_25_bytes': h('60001A20') + bytes(24), '3_before_2_long_name': h('60EA61') + P2_IN,
+    '3_before_2_name_length_65535': P2_IN + h('60FFFF0041') + P2_IN, '3_before_5_cut_name': h('60000220'),
     '3_before_12_cut': h('0300080000'), '3_before_10_cut': h('050007000000'), '3_before_15_cut': h('090002FF'), '3_before_15_long': h('09EA61') + P2_IN,
 }
 
@@ -499,6 +505,24 @@ def offices():
     return b''.join(m.offices())
 
 
+def names():
+    """Point 14: case names (SCOPE 5.4). The file of SCOPE 11.7; names between the edits of a sheet; tag 60s of every length and case, with a look
+    after each; lists of earlier points with tag 60s between their fields. SCOPE 9.7 holds of each list."""
+    m.check_names()
+    tried = m.names_tried(False)
+    due(b''.join(b for b, _ in tried), [no for _, no in tried if no])
+    looks = [f(6, st, k) for st in (0, 15) for k in range(3)]
+    after_each = [x for n, (b, _) in enumerate(tried) for x in (b, f(6, n % 2 * 15, n % 3))] + looks + [f(7, 0), f(7, 15), f(4, 5), f(2, 31, D)]
+    lists = [m.names_worked(), m.looked_at(m.named_steps(), (0, 15), True) + after_each]
+    for earlier, stations in ((m.one_place(), (0, 1)), (m.restored(), (0, 15))):
+        lists.append(m.with_names(m.looked_at(earlier, stations, True), random.Random(60)))
+    lists += [m.with_names(fields, random.Random(n)) for n, fields in enumerate(m.offices_worked() + m.held_worked())]
+    lists.append([b for b, _ in m.names_of_all(2)] + [f(6, 0, 0)])
+    for fields in lists:
+        assert not m.apart_without_names(lambda file: [a for _, a in run(file)[1]], b''.join(fields))
+    return b''.join(b for fields in lists for b in fields)
+
+
 def long_fields():
     """Whole fields of the greatest length: an unknown tag, a known one; the sheet stays."""
     look = f(6, 0, 0) + f(7, 0)
@@ -511,15 +535,15 @@ def long_fields():
 POINTS = {'1_worked_exchange_p2': lambda: P2_IN, '2_each_refusal': refusals, '3_refusal_orders': orders, '4_p1_to_p10': frames_by_hand,
           '5_methods_zones_live_options': every_setting, '6_groups': groups, '7_long_fields': long_fields,
           '8_ice': ice, '9_fluid': fluid, '10_pair': pair, '11_straining': straining, '12_held': held,
-          '13_offices': offices}
+          '13_offices': offices, '14_names': names}
 BUFFER = 65536  # what `frames` reads in one turn, at most
 
 
 def stored():
     """The stored input and output: the points, the refusals first, on the sheet that the service starts with. The last field gets a 3
-    at once; what follows its header is not answered."""
+    at once; what follows its header is not answered, and the names there are none for the drawing office's reader."""
     order = sorted(POINTS, key=lambda k: not k.startswith('2_'))
-    whole = b''.join(POINTS[k]() for k in order) + f(1, bytes(60001)) + P2_IN
+    whole = b''.join(POINTS[k]() for k in order) + f(1, bytes(60001)) + P2_IN + b''.join(m.late_names())
     out, steps = run(whole)
     assert steps[-1][1] == h('81000103') and len(whole) > 2 * BUFFER
     return whole, out
@@ -530,6 +554,9 @@ MORE = {'2_empty_input': (b'', b''),
         '2_length_60000_known_tag_is_2': (f(1, bytes(60000)) + P2_IN, h('81000102') + P2_OUT),
         '2_length_60001_wholly_there_is_3': (P2_IN + f(2, bytes(60001)) + P2_IN, P2_OUT + h('81000103'))}
 MORE.update({'13_R%d' % n: (b''.join(fields) + h('030008'), out) for n, (fields, out) in enumerate(zip(m.offices_worked(), R_OUT), 1)})
+MORE['14_names_worked'] = m.NAMES_FILE, b''.join(a for _, a in m.NAMES_WORKED)
+MORE['14_names_worked_with_the_last_byte'] = m.NAMES_FILE + b'X', b''.join(a for _, a in m.NAMES_WORKED[:-1]) + h('800000')
+MORE['14_names_worked_with_a_long_length'] = m.LONG_FILE + P2_IN, h('800000 81000103')
 NAMES = list(POINTS) + ['2_' + k for k in CUT] + list(MORE)
 
 
@@ -562,6 +589,7 @@ def main():
     for path, b in zip(FILES, stored()):
         with open(path, 'wb') as o:
             o.write(b)
+    drawing.main()
     print([os.path.getsize(path) for path in FILES], 'bytes;', STATS, 'rows', sorted(ROWS_SEEN))
 
 

@@ -1,5 +1,6 @@
 #!/usr/bin/env python3
-"""A second service, by brute force, made apart from the crates, by docs/SCOPE.md; it makes the stored input of `recheck_run`.
+"""A second service, by brute force, made apart from the crates, by docs/SCOPE.md, and the drawing office's reader; it makes the stored input of
+`recheck_run`.
 
 It shares nothing with the crates: it builds each admissible combination, where `recheck` tests every set."""
 import itertools
@@ -157,17 +158,24 @@ class Sheet:
 
 
 LENGTHS = {1: 3, 2: 2, 3: 8, 4: 1, 5: 7, 6: 2, 7: 1, 8: 1, 9: 2}
+NAME, NAME_LENGTHS = 0x60, range(2, 26)  # the body of a tag 60 is a case and a name of 1 to 24 bytes
+LONGEST = 60000
+
+
+def lengths(tag):
+    """The lengths of a tag's body, SCOPE 5.2; none for an unknown tag."""
+    return NAME_LENGTHS if tag == NAME else [LENGTHS[tag]] if tag in LENGTHS else []
 
 
 def refusal(s, b):
     if len(b) < 3:
         return 3
     tag, n = b[0], b[1] << 8 | b[2]
-    if n > 60000 or len(b) < 3 + n:
+    if n > LONGEST or len(b) < 3 + n:
         return 3
-    if tag not in LENGTHS:
+    if not lengths(tag):
         return 1
-    if LENGTHS[tag] != n:
+    if n not in lengths(tag):
         return 2
     d = b[3:3 + n]
     checks = {
@@ -181,6 +189,7 @@ def refusal(s, b):
         7: lambda: [6 * (d[0] > 15), 13 * (d[0] not in s.cap)],
         8: lambda: [4 * (d[0] > 1)],
         9: lambda: [15 * (not STRAINING[s.method][0] <= d[0] << 8 | d[1] <= STRAINING[s.method][1])],
+        NAME: lambda: [5 * (d[0] > 31)],
     }
     return next((x for x in checks[tag]() if x), 0)
 
@@ -209,10 +218,51 @@ def serve(s, b, rng):
         s.ice = d[0]
     elif tag == 9:
         s.straining, = struct.unpack('>H', d[:2])
+    elif tag == NAME:
+        pass  # SCOPE 5.4: a sheet holds no names
     else:
         (num, r, a, l), den = s.utilisation(d[0], rng)
         return s, bytes([0x87, 0, 26]) + struct.pack('>qqBBII', num, den, int(num <= den), r, a, l)
     return s, bytes([0x80, 0, 0])
+
+
+def whole_fields(file):
+    """The whole fields of a file, SCOPE 9.6: (where it starts, where it ends) of each, up to a cut field or a length above 60,000."""
+    at, out = 0, []
+    while at + 3 <= len(file):
+        n = file[at + 1] << 8 | file[at + 2]
+        if n > LONGEST or at + 3 + n > len(file):
+            break
+        out.append((at, at + 3 + n))
+        at += 3 + n
+    return out
+
+
+def names_case(b, case):
+    """Whether a whole field names the case."""
+    return b[0] == NAME and len(b) - 3 in NAME_LENGTHS and b[3] == case
+
+
+def is_name(b):
+    """Whether a whole field is a name, SCOPE 9.7."""
+    return b[0] == NAME and len(b) - 3 in NAME_LENGTHS and b[3] <= 31
+
+
+def name_in(file, case):
+    """The drawing office's reader, SCOPE 9.6: where the name of the case stands in a file and its length, or None."""
+    found = [(at, end) for at, end in whole_fields(file) if case <= 31 and names_case(file[at:end], case)]
+    return (found[-1][0] + 4, found[-1][1] - found[-1][0] - 4) if found else None
+
+
+def left_out(b, refused_too):
+    """Whether a whole field is a name, or with `refused_too` any tag 60."""
+    return b[0] == NAME if refused_too else is_name(b)
+
+
+def without_names(file, refused_too=False):
+    """The file without its names, SCOPE 9.7; or without any whole tag 60, the refused ones included."""
+    parts = [file[at:end] for at, end in whole_fields(file)]
+    return b''.join(b for b in parts if not left_out(b, refused_too)) + file[sum(map(len, parts)):]
 
 
 def f(tag, *body):
@@ -462,6 +512,15 @@ OFFICES_WORKED = [
     ((100, 5, -3), (-80, 7, 3), (-20, 1000, -10000), (1, 2, 3)),
     ((101, 5, -3), (10, 0, 0), (20, 30, 0), (100, 100, 100)),
 ]
+
+
+# SCOPE 11.7: the fields of the first file, its last one cut, with their answers; and the file of a length above 60,000.
+NAMES_WORKED = [tuple(map(bytes.fromhex, pair)) for pair in (
+    ('01 00 03 01 00 00', '80 00 00'), ('60 00 05 00 44 45 41 44', '80 00 00'), ('02 00 02 00 01', '80 00 00'), ('60 00 02 01 4C', '80 00 00'),
+    ('7F 00 02 60 00', '81 00 01 01'), ('60 00 01 01', '81 00 01 02'), ('60 00 02 20 41', '81 00 01 05'),
+    ('60 00 06 00 52 4F 4F 46 31', '80 00 00'), ('60 00 1A 01' + 25 * ' 41', '81 00 01 02'), ('60 00 02 01', '81 00 01 03'))]
+NAMES_FILE = b''.join(b for b, _ in NAMES_WORKED)
+LONG_FILE = bytes.fromhex('60 00 02 00 41  60 EA 61 00 42')
 
 
 def value(rng):
@@ -912,6 +971,118 @@ def offices():
     return [b for fields in offices_worked() + pairs for b in fields]
 
 
+def name(case, text):
+    """A tag 60."""
+    return f(NAME, case, text if isinstance(text, bytes) else text.encode())
+
+
+def names_worked():
+    """The first file of SCOPE 11.7 without the cut field at its end; the sheet then has a D case in place 0 and no other."""
+    return [b for b, _ in NAMES_WORKED[:-1]] + [f(6, 0, 0), f(2, 0, D), f(4, 1), f(4, 31)]
+
+
+def named_steps(stations=(0, 15)):
+    """Steps: an edit, then a name of the case that it is for or of another one, by turns. A name comes before the tag 02 of its case,
+    between 02 and 03, after 03 and 04, and after 01, 05, 08 and 09."""
+    a, b = stations
+    put = lambda case, at_a, at_b: [f(3, case, st, effects(*e)) for st, e in zip(stations, (at_a, at_b))]
+    edits = [
+        ([f(1, 1, 0, 0)], 0), ([f(2, 0, D)], 0), (put(0, (100, -40, 7), (-35, 20, 60)), 0),
+        ([f(5, a, caps(270, 90, 70)), f(5, b, caps(80, 150, 60))], 0), ([f(2, 31, W)], 31), (put(31, (-300, 80, 11), (90, -15, -40)), 31),
+        ([f(2, 7, F)], 7), (put(7, (42, 17, -66), (-28, 39, 51)), 7), ([f(2, 8, T)], 7), (put(8, (60, 20, -9), (14, -19, 8)), 8),
+        ([f(9, word(1500))], 8), ([f(2, 30, DI)], 31), (put(30, (33, -5, 2), (12, 90, 6)), 30), ([f(8, 1)], 30), ([f(4, 31)], 31),
+        ([f(2, 31, HP)], 31), (put(31, (-25, 85, 14), (47, -74, 5)), 0), ([f(4, 7)], 7), ([f(4, 0)], 31), ([f(2, 0, D)], 0),
+        (put(0, (61, 19, -8), (-5, 10, 6)), 7), ([f(1, 2, 1, 2)], 0), ([f(2, 0, L), f(2, 31, D)], 31),
+        (put(0, (50, -10, 25), (-30, 60, 5)) + put(31, (75, -20, 34), (-11, 83, 6)), 31),
+        ([f(5, a, caps(90, 60, 120)), f(5, b, caps(150, 350, 250))], 0),
+    ]
+    return [step for n, (edit, case) in enumerate(edits) for step in (edit, [name(case, 'step %d' % n)])]
+
+
+# Lengths of a tag 60: both sides of each limit; those that are right without their high byte or with the two bytes the other way round.
+LENGTHS_TRIED = (0, 1, 2, 3, 24, 25, 26, 27, 255, 256, 257, 258, 281, 282, 512)
+INNER = f(NAME, 0, b'inner') + f(NAME, 31, b'inner')  # what no reader may take for names, within the body of another field
+
+
+def name_lengths(cases):
+    """Tag 60 of every length tried, for cases that are filled, empty or above 31; and the number of the refusal, or 0."""
+    out = []
+    for case in cases:
+        for n in LENGTHS_TRIED:
+            body = (bytes([case]) + (b'' if n in NAME_LENGTHS else INNER * 60) + b'%d bytes of length, in all ' % n)[:n].ljust(n, b'.')
+            out.append((f(NAME, body), 2 if n not in NAME_LENGTHS else 5 * (case > 31)))
+    return out
+
+
+def name_cases():
+    """Names of cases about each limit, and of those above 31 that a filled place is left of without their high bits."""
+    return [(name(c, 'case %d' % c), 5 * (c > 31)) for c in (0, 1, 30, 31, 32, 33, 63, 64, 95, 96, 127, 128, 159, 160, 224, 254, 255)]
+
+
+def names_like_fields():
+    """Names whose bytes are fields or the start of one, and fields of other tags or of wrong lengths that have a name within or the form of
+    one: 3C is 60 in base ten."""
+    inner = [f(4, 0), f(1, 1, 0, 0), f(2, 5, W), f(3, 0, 0, effects(7, 7, 7)), f(5, 0, caps(1, 2, 3)), f(8, 1), name(0, 'X'), name(31, 'X')]
+    inner += [bytes.fromhex(x) for x in ('7FFFFF', 'FFEA61', '60', '6000', '600002', '000000', '01EA60', '0A', '00', '5C', 'FF')]
+    other = [(f(tag, INNER), 1) for tag in (0x7F, 0x00, 0x61, 0xE0)] + [(f(tag, 0, b'A'), 1) for tag in (0x3C, 0x5F, 0x61, 0x40, 0x20, 0xE0)]
+    other += [(f(4, INNER), 2), (f(7, name(0, 'inner')), 2), (f(NAME, 0, INNER * 2), 2), (f(NAME), 2), (f(NAME, NAME), 2)]
+    return [(name((0, 31, 5)[n % 3], b), 0) for n, b in enumerate(inner)] + other
+
+
+def names_of_all(times=1):
+    """Names of all 32 cases, of every length, some with bytes beyond ASCII."""
+    texts = ['Eigengewicht Dach', 'Wind +x', 'Schnee \u00b5 = 0,8', '\u96ea', 'L', 'a\nb\\c', 'ROOF', 'Erddruck (st\u00e4ndig) 12', '\u00dcberflutung']
+    every = [texts[(c + 5 * k) % 9] if (c + k) % 4 else 'n' * (c % 24 + 1) for k in range(times) for c in range(32)]
+    return [(name(n % 32, text), 0) for n, text in enumerate(every)]
+
+
+def names_tried(some=True):
+    """Tag 60s with their refusals or 0, for a sheet with cases in places 0 and 31: on the other places they make no difference."""
+    cases = (0, 5, 32) if some else (0, 5, 31, 32, 159, 255)
+    return name_lengths(cases) + name_cases() + names_like_fields() + names_of_all() + [(name(0, 'last of 0'), 0), (name(31, 'last of 31'), 0)]
+
+
+def tag_60(rng):
+    """A tag 60: most are names, the others are refused with 2 or 5."""
+    case = rng.choice([rng.randrange(32), rng.randrange(32), rng.randrange(8), 0, 31, 32, 255])
+    size = rng.choice([1, 2, 23, 24, rng.randint(1, 24), rng.randint(1, 24), rng.randint(1, 24), 0, 25, rng.randint(25, 300)])
+    return f(NAME, case, bytes(rng.choice([0, 1, 2, 4, 10, 65, 90, 92, NAME, 127, 200, 255]) for _ in range(size)))
+
+
+def with_names(fields, rng):
+    """The fields with tag 60s between them; the answers to the fields stay the same (SCOPE 9.7)."""
+    return [x for b in fields for x in [b] + [tag_60(rng) for _ in range(rng.choice((0, 1, 1, 2)))]]
+
+
+def answered_fields(file):
+    """What a service answers of a file: its whole fields, and the rest where a field is cut or too long."""
+    parts = [file[at:end] for at, end in whole_fields(file)]
+    rest = file[sum(map(len, parts)):]
+    return parts + [rest] * (rest != b'')
+
+
+def apart_without_names(answers_to, file):
+    """Whether SCOPE 9.7 fails on a function that gives the list of answers to a file: the file without its names, or without any whole tag 60,
+    has other answers than these fields have in the file."""
+    first, whole = answers_to(file), len(whole_fields(file))
+    fields = answered_fields(file)
+    rest = lambda refused_too: [a for n, (b, a) in enumerate(zip(fields, first)) if n >= whole or not left_out(b, refused_too)]
+    return len(first) != len(fields) or any(answers_to(without_names(file, too)) != rest(too) for too in (False, True))
+
+
+def names():
+    """Lists with tag 60 (SCOPE 5.4), on sheets that are small enough to enumerate. After some of the last fields there is a look."""
+    out = names_worked() + looked_at(named_steps(), (0, 15))
+    for n, (b, _) in enumerate(names_tried()):
+        out += [b] + [f(6, n // 4 % 2 * 15, n // 4 % 3)] * (n % 4 == 0)
+    return out + [f(7, 0), f(7, 15), f(4, 5), f(2, 31, D)]
+
+
+def late_names():
+    """Names for after a length above 60,000, where the drawing office's reader reads no further."""
+    return [name(0, 'too late'), name(1, 'too late'), name(29, 'too late'), name(31, 'too late')]
+
+
 def saved_after(edits):
     """The fields of the saved form of the sheet that these edits make."""
     s = Sheet()
@@ -1034,14 +1205,31 @@ def check_held():
             assert found == (high, low), (step, found)
 
 
+def check_names():
+    """SCOPE 11.7: the answers and the names worked by hand, with the file without its names; and the tag 60s of `names_tried`."""
+    s, due = Sheet(), []
+    for b, answer in NAMES_WORKED:
+        s, a = serve(s, b, None)
+        assert a == answer, (b, a)
+    assert s.kind == {0: D} and len(NAMES_FILE) == 80
+    for file, want in ((NAMES_FILE, {0: (42, 5), 1: (23, 1)}), (NAMES_FILE + b'X', {0: (42, 5), 1: (80, 1)}), (LONG_FILE, {0: (4, 1)}),
+                       (LONG_FILE + bytes(70000), {0: (4, 1)}), (LONG_FILE + name(0, 'B') * 20000, {0: (4, 1)})):
+        assert {case: name_in(file, case) for case in range(300) if name_in(file, case)} == want, (file[:80], want)
+    left = [NAMES_WORKED[k][0] for k in (0, 2, 4, 5, 6, 8, 9)]
+    assert without_names(NAMES_FILE) == b''.join(left) and without_names(LONG_FILE) == LONG_FILE[5:]
+    assert without_names(NAMES_FILE, True) == b''.join(b for b in left if b[0] != NAME) + left[-1]
+    for b, number in names_tried() + names_tried(False):
+        assert refusal(s, b) == refusal(Sheet(), b) == number and is_name(b) == (b[0] == NAME and not number), b
+
+
 def readings(rng):
     """The readings of `recheck_run`. Two get a 3, where a service stops: a length above 60,000, and at the end a field that is cut short."""
     ice = [b for fields in ice_sheets() for b in fields] + ice_switch()
     fluid = [b for fields in fluid_sheets() for b in fields] + fluid_rows() + fluid_utilisations()
     straining = [b for fields in straining_sheets() for b in fields] + straining_set() + straining_utilisations()
     groups = together(settings=[(1, 1), (2, 1), (2, 2)], sets=TOGETHER[4:])
-    fields = before_any_settings() + BAD + generate(rng) + groups + saved_forms() + ice + fluid + straining + offices() + held()
-    return fields + long_fields() + [bytes.fromhex('01000301')]
+    fields = before_any_settings() + BAD + generate(rng) + groups + saved_forms() + ice + fluid + straining + offices() + names() + held()
+    return fields + long_fields() + late_names() + [bytes.fromhex('01000301')]
 
 
 def seeded():
@@ -1057,6 +1245,7 @@ def main():
     check_fluid()
     check_straining()
     check_held()
+    check_names()
     rng = seeded()
     fields = readings(rng)
     s, answers = Sheet(), []

@@ -1,5 +1,5 @@
-/* Stands in for the service in a trial of the tests: its reads and writes, and answers that are right for the fields of P2 and for
-   refused headers alone. WRONG names one error that it then has; "nothing" makes it right. */
+/* Stands in for the service in a trial of the tests: its reads and writes, and answers that are right for the fields of P2, for names and
+   for refused headers alone. WRONG names one error that it then has; "nothing" makes it right. */
 #include <errno.h>
 #include <signal.h>
 #include <stdio.h>
@@ -97,7 +97,11 @@ static void finish(int cut) {
 
 static void answer(const byte *b, size_t length) {
     static const byte lengths[] = {0, 3, 2, 8, 1, 7, 2, 1, 1, 2};
-    if (b[0] < 1 || b[0] > 9) refuse(1);
+    if (b[0] == 0x60 && !IS("names unknown")) {
+        if (length < 2 || length > 25) refuse(2);
+        else if (b[3] > 31) refuse(5);
+        else add("\x80\0", 3);
+    } else if (b[0] < 1 || b[0] > 9) refuse(1);
     else if (length != lengths[b[0]]) refuse(2);
     else if (b[0] == 6) add(look, sizeof look);
     else add("\x80\0", 3);

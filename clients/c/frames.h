@@ -48,6 +48,18 @@ frames_ran frames_run(const uint8_t *state, size_t state_len,
                       uint8_t *output, size_t output_len,
                       uint8_t *saved, size_t saved_len);
 
+typedef struct {
+    size_t from; /* where the name begins in the file; 0 where there is none */
+    size_t len;  /* its bytes, 1 to 24; 0 where there is no name */
+} frames_place;
+
+/* Where the name of a load case stands in a file, for drawings: len bytes from file + from on, which are that part of the file itself.
+
+   `file` is a list of fields, and may be one that frames_run reads too. The name is in the last of them with tag 60, a length from 2 to 25
+   and this case. All other fields are passed over, refused or not. The walk ends at a field that is cut or longer than 60,000. There is
+   no name where none of the fields names the case, and for a case above 31. */
+frames_place frames_name(const uint8_t *file, size_t file_len, uint8_t load_case);
+
 /* The text of a refusal, by its number in `refusal` or in an answer 81. NULL for another number, 0 included. */
 static inline const char *frames_refusal_text(uint8_t refusal)
 {

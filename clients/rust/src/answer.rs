@@ -59,7 +59,7 @@ pub fn cases(set: u32) -> impl Iterator<Item = u8> {
 /// The answer to a field.
 #[derive(Clone, Copy, Debug, PartialEq, Eq, Hash)]
 pub enum Answer {
-    /// The edit is made.
+    /// The edit is made, or a name for drawings has a right length and case.
     Accepted,
     /// The field is refused; the sheet is as it was.
     Refused(Refusal),

@@ -1,6 +1,8 @@
 //! The library on slices of bytes, for a caller with buffers of its own.
 //!
-//! [`Sheet`](crate::Sheet) is built on these two functions.
+//! [`Sheet`](crate::Sheet) is built on [`answer`] and [`run`], [`case_name`](crate::case_name) on [`name_place`].
+
+use std::ops::Range;
 
 use crate::raw::{self, Ran};
 use crate::Refusal;
@@ -44,6 +46,15 @@ pub fn run(
     saved: &mut [u8],
 ) -> Result<Written, Refusal> {
     result(call(state, input, output, Some(saved)))
+}
+
+/// Where the name of a case stands in a file of fields. `None` where the file has no name for the case, and for a case above 31.
+///
+/// It is in the last field with tag 60 for the case, as far as the fields of the file are whole and none is longer than 60,000.
+pub fn name_place(file: &[u8], case: u8) -> Option<Range<usize>> {
+    // SAFETY: the pointer and the length are those of a slice, so it is not null and valid for the length. The library only reads.
+    let place = unsafe { raw::frames_name(file.as_ptr(), file.len(), case) };
+    (place.len > 0).then(|| place.from..place.from + place.len)
 }
 
 fn result(ran: Ran) -> Result<Written, Refusal> {

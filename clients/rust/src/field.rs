@@ -1,4 +1,5 @@
 use crate::wire::split;
+use crate::CaseName;
 
 /// The method of the standard.
 #[derive(Clone, Copy, Debug, Default, PartialEq, Eq, Hash)]
@@ -136,7 +137,7 @@ pub struct Capacities {
     pub mz: u16,
 }
 
-/// One field: an edit of the sheet or a question about it.
+/// One field: an edit of the sheet, a question about it, or a name for drawings.
 #[derive(Clone, Copy, Debug, PartialEq, Eq, Hash)]
 pub enum Field {
     /// Starts a fresh sheet.
@@ -191,6 +192,13 @@ pub enum Field {
         /// In thousandths: 1000 to 2000 in strength design, 750 to 1000 in allowable stress design.
         factor: u16,
     },
+    /// Names a load case for drawings. A sheet holds no names and stays as it is; [`case_name`](crate::case_name) finds them in a file.
+    NameCase {
+        /// The place, 0 to 31, filled or empty.
+        case: u8,
+        /// The name.
+        name: CaseName,
+    },
 }
 
 impl Field {
@@ -203,6 +211,24 @@ impl Field {
     /// values these types do not have.
     pub fn decode(bytes: &[u8]) -> Option<(Field, &[u8])> {
         let (tag, body, rest) = split(bytes)?;
+        let field = match (tag, body) {
+            (0x60, &[case, ref name @ ..]) => Field::NameCase {
+                case,
+                name: CaseName::new(name)?,
+            },
+            _ => Field::nameless(tag, body)?,
+        };
+        Some((field, rest))
+    }
+
+    /// The same where the bytes are a saved sheet, which has no names: without the copy of a name it takes some third of the time.
+    pub(crate) fn decode_saved(bytes: &[u8]) -> Option<(Field, &[u8])> {
+        let (tag, body, rest) = split(bytes)?;
+        Some((Field::nameless(tag, body)?, rest))
+    }
+
+    /// The field of a tag other than 60.
+    fn nameless(tag: u8, body: &[u8]) -> Option<Field> {
         let field = match (tag, body) {
             (1, &[method, live, zone]) => Field::Start(Settings {
                 method: Method::from_number(method)?,
@@ -240,7 +266,7 @@ impl Field {
             },
             _ => return None,
         };
-        Some((field, rest))
+        Some(field)
     }
 
     pub(crate) fn encoded(&self) -> Encoded {
@@ -268,6 +294,7 @@ impl Field {
             Field::Utilisation { station } => Encoded::new(7, &[station]),
             Field::SetIce { on } => Encoded::new(8, &[u8::from(on)]),
             Field::SetStraining { factor } => Encoded::new(9, &factor.to_be_bytes()),
+            Field::NameCase { case, name } => Encoded::named(case, name.as_bytes()),
         }
     }
 }
@@ -280,20 +307,30 @@ fn three(words: &[u8]) -> Option<[[u8; 2]; 3]> {
     Some([[n0, n1], [y0, y1], [z0, z1]])
 }
 
+/// A name of the greatest length after its header and its case.
+const LONGEST_FIELD: usize = 4 + CaseName::LONGEST;
+
 /// A field as bytes, without an allocation.
 pub(crate) struct Encoded {
-    bytes: [u8; 11],
+    bytes: [u8; LONGEST_FIELD],
     len: usize,
 }
 
 impl Encoded {
     fn new(tag: u8, body: &[u8]) -> Encoded {
-        let mut bytes = [0; 11];
+        let mut bytes = [0; LONGEST_FIELD];
         let len = 3 + body.len();
         bytes[0] = tag;
         bytes[2] = body.len() as u8;
         bytes[3..len].copy_from_slice(body);
         Encoded { bytes, len }
+    }
+
+    /// Tag 60: a case and its name.
+    fn named(case: u8, name: &[u8]) -> Encoded {
+        let mut body = [case; 1 + CaseName::LONGEST];
+        body[1..=name.len()].copy_from_slice(name);
+        Encoded::new(0x60, &body[..=name.len()])
     }
 
     pub(crate) fn as_bytes(&self) -> &[u8] {

@@ -2,7 +2,8 @@
 //!
 //! A sheet holds load cases with their effects N, My and Mz at stations of a frame. For a station the library finds the greatest
 //! and the least factored effect, and the greatest utilisation, over every admissible combination of ASCE 7-10, and names a
-//! combination that reaches each. This crate passes bytes to the library and gives its answers types; it decides nothing itself.
+//! combination that reaches each. In a file of fields it finds the names that drawings print for the cases. This crate passes bytes
+//! to the library and gives its answers types; it decides nothing itself.
 //!
 //! ```
 //! use frames::{Capacities, Component, Effects, Kind, Settings, Sheet};
@@ -32,6 +33,7 @@
 mod answer;
 pub mod bytes;
 mod field;
+mod name;
 pub mod raw;
 mod refusal;
 mod row;
@@ -40,6 +42,7 @@ mod wire;
 
 pub use answer::{cases, Answer, Extreme, Extremes, Utilisation};
 pub use field::{Capacities, Component, Effects, Field, Kind, LiveOption, Method, Settings, Zone};
+pub use name::{case_name, CaseName};
 pub use refusal::Refusal;
 pub use row::Row;
 pub use sheet::Sheet;

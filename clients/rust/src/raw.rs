@@ -15,6 +15,16 @@ pub struct Ran {
     pub saved: usize,
 }
 
+/// Where a name stands in a file.
+#[repr(C)]
+#[derive(Clone, Copy, Debug, PartialEq, Eq)]
+pub struct Place {
+    /// The place of its first byte, or 0 where there is no name.
+    pub from: usize,
+    /// How many bytes it has, 1 to 24, or 0 where there is no name.
+    pub len: usize,
+}
+
 extern "C" {
     /// How many fields the bytes hold, and so how many answers a run of them writes. A field that is cut or longer than 60,000
     /// counts as one and is the last.
@@ -42,4 +52,8 @@ extern "C" {
         saved: *mut u8,
         saved_len: usize,
     ) -> Ran;
+
+    /// Where the name of a case stands in a file of fields: the last tag 60 for the case, as far as the fields are whole and none is
+    /// longer than 60,000. A case above 31 has no name.
+    pub fn frames_name(file: *const u8, file_len: usize, load_case: u8) -> Place;
 }

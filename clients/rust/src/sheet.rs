@@ -25,7 +25,8 @@ impl Sheet {
         Sheet::load(field.as_bytes()).expect("every setting of the types is one of the library's")
     }
 
-    /// Restores a saved sheet: a list of fields that are read on a fresh sheet, each of which must be accepted.
+    /// Restores a saved sheet: a list of fields that are read on a fresh sheet, each of which must be accepted. Names of cases may be
+    /// among them; the sheet is the one without them.
     ///
     /// # Errors
     ///
@@ -47,14 +48,14 @@ impl Sheet {
     }
 
     /// The fields that make the sheet: its settings, ice where it is on, the straining factor where it is not 1000, each case with its
-    /// effects other than 0, and the capacities.
+    /// effects other than 0, and the capacities. No names are among them.
     pub fn fields(&self) -> impl Iterator<Item = Field> + '_ {
         let mut rest = self.save();
         std::iter::from_fn(move || {
             if rest.is_empty() {
                 return None;
             }
-            let (field, after) = Field::decode(rest).expect("the library saves whole fields");
+            let (field, after) = Field::decode_saved(rest).expect("the library saves whole fields");
             rest = after;
             Some(field)
         })

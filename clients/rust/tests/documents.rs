@@ -1,5 +1,5 @@
 //! Rows and refusals read the same in this crate, in docs/FIELDS.md, in docs/SCOPE.md and in the C header, and the formulas have the
-//! factors of the table that the differential tests use.
+//! factors of the table that the differential tests use. The library answers as the exchanges and the files of the documents say.
 
 #[allow(dead_code)]
 #[path = "differential/combination.rs"]
@@ -9,10 +9,11 @@ mod combination;
 mod reference;
 
 use std::collections::BTreeMap;
+use std::ops::RangeInclusive;
 
 use combination::{low_factor, open_rows};
-use frames::bytes::{answer, run, ANSWER, SAVED};
-use frames::{Kind, LiveOption, Method, Refusal, Row, Zone};
+use frames::bytes::{answer, name_place, run, ANSWER, SAVED};
+use frames::{case_name, Kind, LiveOption, Method, Refusal, Row, Zone};
 
 const FIELDS: &str = include_str!("../../../docs/FIELDS.md");
 const SCOPE: &str = include_str!("../../../docs/SCOPE.md");
@@ -360,14 +361,49 @@ fn exchange(section: &str) -> (Vec<u8>, Vec<u8>) {
     (input, expected)
 }
 
+/// The tags of both documents, and by each tag the lengths that it may have: the library refuses other tags with 1 and other lengths with 2.
+#[test]
+fn tags_of_the_documents() {
+    let tags: BTreeMap<u8, RangeInclusive<usize>> = table(FIELDS, "# The fields\n")
+        .iter()
+        .map(|cells| (tag_of(cells[0]), lengths_of(cells[1])))
+        .collect();
+    let in_scope: Vec<u8> = table(SCOPE, "\n### 5.2 ")
+        .iter()
+        .map(|cells| tag_of(cells[0]))
+        .collect();
+    assert!(tags.keys().eq(&in_scope), "{tags:?}, {in_scope:?}");
+    for (tag, length) in (0..=u8::MAX).flat_map(|tag| (0..40).map(move |length| (tag, length))) {
+        let field = [&[tag, 0, length as u8][..], &vec![0; length]].concat();
+        let mut output = [0; ANSWER];
+        answer(&[], &field, &mut output).unwrap();
+        let refused = match output[0] {
+            0x81 => Refusal::from_number(output[3]),
+            _ => None,
+        };
+        let lengths = tags.get(&tag);
+        assert_eq!(refused == Some(Refusal::UnknownTag), lengths.is_none());
+        let wrong = lengths.is_some_and(|lengths| !lengths.contains(&length));
+        assert_eq!(refused == Some(Refusal::WrongLength), wrong, "{field:x?}");
+    }
+}
+
+fn tag_of(cell: &str) -> u8 {
+    u8::from_str_radix(cell, 16).unwrap()
+}
+
+/// The lengths of a cell such as `3` or `2 to 25`.
+fn lengths_of(cell: &str) -> RangeInclusive<usize> {
+    let (first, last) = cell.split_once(" to ").unwrap_or((cell, cell));
+    first.parse().unwrap()..=last.parse().unwrap()
+}
+
 #[test]
 fn worked_exchange_of_the_fields_document() {
     let (_, section) = FIELDS.split_once("\n## A worked exchange\n").unwrap();
     let (section, _) = section.split_once("\n## ").unwrap();
     let (input, expected) = exchange(section);
-    let mut output = [0; 20 * ANSWER];
-    let written = answer(&[], &input, &mut output).unwrap();
-    assert_eq!(output[..written], expected);
+    assert_eq!(answers_of(&input), expected);
 }
 
 /// SCOPE 11.5, as one list, and each field on the sheet as it was saved before it.
@@ -389,6 +425,106 @@ fn dropped_cases_of_the_scope_document() {
         state = saved[..written.saved].to_vec();
     }
     assert_eq!(answers, expected);
+}
+
+/// SCOPE 11.7: the file after each of its fields, with the answers and the places of the names.
+#[test]
+fn case_names_of_the_scope_document() {
+    let (mut file, mut answers) = (Vec::new(), Vec::new());
+    let mut places = BTreeMap::new();
+    for cells in table(SCOPE, "\n### 11.7 ") {
+        let [from, field, answered, name] = cells[..] else {
+            panic!("four cells: {cells:?}");
+        };
+        assert_eq!(from.parse(), Ok(file.len()));
+        file.extend(bytes_of(field));
+        answers.extend(hexadecimal(answered));
+        places.extend(named_in(name));
+        assert_names(&file, &places);
+    }
+    assert_eq!(answers_of(&file), answers);
+    assert!(SCOPE.contains(&format!("\nThe file has {} bytes:\n", file.len())));
+    let others: Vec<&[u8]> = reference::fields(&file)
+        .into_iter()
+        .filter(|field| reference::named(field).is_none())
+        .collect();
+    let at = |field: &&[u8]| (field.as_ptr() as usize - file.as_ptr() as usize).to_string();
+    let at: Vec<String> = others.iter().map(at).collect();
+    let (last, first) = at.split_last().unwrap();
+    let stated = format!("is its fields at {} and {last}.", first.join(", "));
+    assert!(SCOPE.contains(&stated), "{stated}");
+    assert_names(&others.concat(), &BTreeMap::new());
+    let dead = [&[1, 0, 3, 1, 0, 0][..], &[2, 0, 2, 0, 1]].concat();
+    assert_eq!(sheet_of(&file), dead);
+    assert_eq!(sheet_of(&others.concat()), dead);
+    places.insert(1, (80, "X"));
+    file.push(0x58);
+    assert_names(&file, &places);
+}
+
+/// SCOPE 11.7: a length above 60,000, with more and more bytes after it.
+#[test]
+fn too_long_a_field_of_the_scope_document() {
+    let rows = table(
+        SCOPE,
+        "\nWith a length above 60,000 nothing after it is read:\n",
+    );
+    let fields = rows.iter().map(|cells| bytes_of(cells[1]));
+    let file = fields.collect::<Vec<_>>().concat();
+    let answers: Vec<u8> = rows
+        .iter()
+        .flat_map(|cells| hexadecimal(cells[2]))
+        .collect();
+    let places = rows.iter().filter_map(|cells| named_in(cells[3])).collect();
+    for more in [0, 9, 60_000, 70_000] {
+        let file = [&file[..], &[0x60, 0, 2, 0, 0x43].repeat(more / 5)].concat();
+        assert_names(&file, &places);
+        assert_eq!(answers_of(&file), answers);
+    }
+}
+
+/// The bytes of a cell such as `60 00 1A 01`, then 25 bytes `41`.
+fn bytes_of(cell: &str) -> Vec<u8> {
+    let (first, then) = cell.split_once("`, then ").unwrap_or((cell, ""));
+    let mut bytes: Vec<u8> = hexadecimal(first).collect();
+    if let Some((count, byte)) = then.split_once(" bytes `") {
+        let count: usize = count.parse().unwrap();
+        bytes.extend(hexadecimal(byte).collect::<Vec<_>>().repeat(count));
+    }
+    bytes
+}
+
+/// The case, the place and the name of a cell such as `L` for case 1, at byte 23.
+fn named_in(cell: &str) -> Option<(u8, (usize, &str))> {
+    let (name, rest) = cell.split_once("` for case ")?;
+    let (case, rest) = rest.split_once(", at byte ").unwrap();
+    let at = rest.split([',', ';']).next().unwrap();
+    Some((case.parse().unwrap(), (at.parse().unwrap(), name)))
+}
+
+/// Compares the library and the reference with the names of a file by case; a case that is not there has none.
+fn assert_names(file: &[u8], places: &BTreeMap<u8, (usize, &str)>) {
+    for case in 0..=u8::MAX {
+        let place = places.get(&case).map(|(at, name)| *at..at + name.len());
+        assert_eq!(name_place(file, case), place, "case {case}");
+        assert_eq!(reference::name(file, case), place, "case {case}");
+        let name = places.get(&case).map(|(_, name)| name.as_bytes());
+        assert_eq!(case_name(file, case), name);
+    }
+}
+
+/// The answers to a list of at most 20 fields on a fresh sheet.
+fn answers_of(list: &[u8]) -> Vec<u8> {
+    let mut output = [0; 20 * ANSWER];
+    let written = answer(&[], list, &mut output).unwrap();
+    output[..written].to_vec()
+}
+
+/// The saved sheet after such a list.
+fn sheet_of(list: &[u8]) -> Vec<u8> {
+    let mut saved = [0; SAVED];
+    let written = run(&[], list, &mut [0; 20 * ANSWER], &mut saved).unwrap();
+    saved[..written.saved].to_vec()
 }
 
 fn hexadecimal(bytes: &str) -> impl Iterator<Item = u8> + '_ {

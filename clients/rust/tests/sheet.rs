@@ -1,9 +1,10 @@
-//! The frames worked by hand (SCOPE 11.1), the pair of extremes (SCOPE 4.7), two offices (SCOPE 9.5), every refusal, what a sheet holds, and saving.
+//! The frames worked by hand (SCOPE 11.1), the pair of extremes (SCOPE 4.7), two offices (SCOPE 9.5), names of cases (SCOPE 9.6), every
+//! refusal, what a sheet holds, and saving.
 
-use frames::bytes::{answer, run, ANSWER, SAVED};
+use frames::bytes::{answer, name_place, run, ANSWER, SAVED};
 use frames::{
-    Answer, Capacities, Component, Effects, Extremes, Field, Kind, LiveOption, Method, Refusal,
-    Settings, Sheet, Utilisation, Zone,
+    case_name, Answer, Capacities, CaseName, Component, Effects, Extremes, Field, Kind, LiveOption,
+    Method, Refusal, Settings, Sheet, Utilisation, Zone,
 };
 
 /// Cases from place 0 on, with effects on N at station 0.
@@ -473,6 +474,127 @@ fn looks(sheet: &Sheet, station: u8) -> (Vec<Extremes>, Utilisation) {
     (extremes.collect(), sheet.utilisation(station).unwrap())
 }
 
+fn name(name: &[u8]) -> CaseName {
+    CaseName::new(name).unwrap()
+}
+
+fn name_case(case: u8, text: &str) -> Field {
+    let name = name(text.as_bytes());
+    Field::NameCase { case, name }
+}
+
+fn encoded(fields: &[Field]) -> Vec<u8> {
+    let mut bytes = Vec::new();
+    fields.iter().for_each(|field| field.encode(&mut bytes));
+    bytes
+}
+
+#[test]
+fn lengths_of_a_name() {
+    assert_eq!(CaseName::new(&[]), None);
+    assert_eq!(CaseName::new(&[0; 25]), None);
+    for length in 1..=CaseName::LONGEST {
+        let bytes = &b"\0wind from the north-east"[..length];
+        assert_eq!(name(bytes).as_bytes(), bytes);
+    }
+    assert_ne!(name(b"a"), name(b"a\0"));
+    assert_eq!(format!("{:?}", name(b"roof \xFF")), r#""roof \xff""#);
+}
+
+// SCOPE 9.6
+#[test]
+fn names_in_a_file() {
+    let kind = Kind::Wind;
+    let file = encoded(&[
+        name_case(31, "wind"),
+        Field::AddCase { case: 31, kind },
+        name_case(0, "dead"),
+        name_case(31, "wind up"),
+        Field::DropCase { case: 31 },
+        Field::Start(Settings::default()),
+    ]);
+    assert_eq!(name_place(&file, 31), Some(25..32));
+    assert_eq!(case_name(&file, 31), Some(&b"wind up"[..]));
+    assert_eq!(case_name(&file, 0), Some(&b"dead"[..]));
+    for case in (1..31).chain(32..=u8::MAX) {
+        assert_eq!(
+            (name_place(&file, case), case_name(&file, case)),
+            (None, None)
+        );
+    }
+    // The name is the part of the file itself.
+    let found = case_name(&file, 31).unwrap();
+    assert_eq!(found.as_ptr_range(), file[25..32].as_ptr_range());
+    // Cut within the last name, the file has the one before.
+    assert_eq!(name_place(&file[..31], 31), Some(4..8));
+    assert_eq!(name_place(&file[..7], 31), None);
+    assert_eq!(name_place(&[], 0), None);
+}
+
+/// Fields of tag 60 that are no names, and fields of other tags that hold what looks like one.
+#[test]
+fn what_is_no_name() {
+    for field in [
+        &[0x60, 0, 0][..],
+        &[0x60, 0, 1, 3],
+        &[0x60, 0, 2, 32, 65],
+        &[&[0x60, 0, 26, 3][..], &[65; 25]].concat(),
+        &[&[0x60, 1, 2, 3][..], &[65; 257]].concat(),
+        &[0x7F, 0, 5, 0x60, 0, 2, 3, 65],
+        &[3, 0, 8, 0, 0, 0x60, 0, 2, 3, 65, 65],
+    ] {
+        assert_eq!(case_name(field, 3), None, "{field:x?}");
+        assert_eq!(case_name(field, 32), None, "{field:x?}");
+        let file = [field, &[0x60, 0, 2, 3, 66]].concat();
+        assert_eq!(name_place(&file, 3), Some(file.len() - 1..file.len()));
+    }
+}
+
+#[test]
+fn a_length_above_60_000_ends_the_names() {
+    let name = [0x60, 0, 2, 3, 65];
+    for (length, last) in [(60_000, 66), (60_001, 65)] {
+        let [high, low] = u16::to_be_bytes(length);
+        let long = [&[0x7F, high, low][..], &vec![9; usize::from(length)]].concat();
+        let file = [&name[..], &long, &[0x60, 0, 2, 3, 66]].concat();
+        assert_eq!(case_name(&file, 3), Some(&[last][..]));
+    }
+}
+
+// SCOPE 9.7
+#[test]
+fn names_leave_the_sheet() {
+    for first in every_sheet() {
+        let fields: Vec<Field> = first.fields().collect();
+        let named: Vec<Field> = (0..)
+            .zip(&fields)
+            .flat_map(|(at, field)| [name_case(at % 32, "name"), *field])
+            .collect();
+        assert_eq!(made(&named), first);
+        let file = encoded(&named);
+        let loaded = Sheet::load(&file).unwrap();
+        assert_eq!(loaded, first);
+        assert_eq!(looks(&loaded, 7), looks(&first, 7));
+        assert!(loaded.fields().eq(fields));
+        for case in 0..32 {
+            assert_eq!(case_name(&file, case), Some(&b"name"[..]));
+            assert_eq!(case_name(loaded.save(), case), None);
+        }
+    }
+}
+
+#[test]
+fn names_accepted_and_refused() {
+    let mut s = sheet(Settings::default(), &[(Kind::Dead, 1)]);
+    let before = s.clone();
+    // A place that is filled, one that is empty, and one that there is not.
+    let answers = s.run(&[0, 1, 31, 32, 255].map(|case| name_case(case, "dead")));
+    let outside = Answer::Refused(Refusal::CaseOutside);
+    assert_eq!(answers[..3], [Answer::Accepted; 3]);
+    assert_eq!(answers[3..], [outside; 2]);
+    assert_eq!(s, before);
+}
+
 #[test]
 fn two_winds_do_not_act_together() {
     let mut sheet = sheet(Settings::default(), &[(Kind::Wind, 100), (Kind::Wind, 0)]);
@@ -540,6 +662,9 @@ fn refusals_of_loading() {
     assert_eq!(refused(&[9, 0, 2, 0, 0]), Refusal::StrainingOutside);
     assert_eq!(refused(&[8, 0, 1, 2]), Refusal::SettingsOutside);
     assert_eq!(refused(&[6, 0, 2, 0, 3]), Refusal::ComponentOutside);
+    assert_eq!(refused(&[0x60, 0, 1, 0]), Refusal::WrongLength);
+    assert_eq!(refused(&[0x60, 0, 2, 32, 65]), Refusal::CaseOutside);
+    assert_eq!(refused(&[0x60, 0, 2, 0]), Refusal::Cut);
     let effects = [3, 0, 8, 0, 0, 0x27, 0x11, 0, 0, 0, 0];
     assert_eq!(refused(&effects), Refusal::EffectOutside);
     let capacities = [5, 0, 7, 0, 0, 0, 0, 1, 0, 1];
@@ -672,6 +797,11 @@ fn fields_decoded() {
     assert_eq!(Field::decode(&[8, 0, 1, 2]), None);
     assert_eq!(Field::decode(&[9, 0, 0]), None);
     assert_eq!(Field::decode(&[10, 0, 0]), None);
+    assert_eq!(Field::decode(&[0x60, 0, 1, 0]), None);
+    assert_eq!(
+        Field::decode(&[&[0x60, 0, 26][..], &[0; 26]].concat()),
+        None
+    );
 }
 
 /// A field of each tag, with every setting, kind and component.
@@ -704,6 +834,8 @@ fn every_field() -> Vec<Field> {
     fields.extend((Component::ALL.iter()).map(|&component| Field::Extremes { station, component }));
     fields.extend([false, true].map(|on| Field::SetIce { on }));
     fields.extend([0, 750, 1000, u16::MAX].map(|factor| Field::SetStraining { factor }));
+    let names = ["L", "a name of 24 bytes: wind"];
+    fields.extend(names.map(|text| name_case(case, text)));
     fields.extend(every_start());
     fields
 }

@@ -15,17 +15,17 @@ use Rattle.refusals.proofs.Fits as chain
 use Rattle.sheet.specs.declared.Sheet.{Sheet}
 use Rattle.sheet.specs.declared.Answer.the-variants as answer
 use Rattle.answers.specs.Answers.{answerRoom, answerBytes}
-use Rattle.fields.specs.Field.{readField}
-use Rattle.fields.proofs.InOrder.{by-header}
+use Rattle.headers.specs.Headers.{tagOf, lengthIn, bodyOf, isCut}
+use Rattle.headers.proofs.Whole.{by-header}
+use Rattle.fields.specs.Field.{due, readField}
 use Rattle.tags.specs.Tags.{tagAt, unknownTag}
 use Rattle.tags.proofs.Laws.{by-tags}
 use Rattle.tags.proofs.Numbers.{Own, tag-due-own}
-use Rattle.fields.specs.Field.{tagOf, bodyOf, isCut, lengthIn, due}
 
 module _ (s : Sheet) (b : List ℕ) where
   -- no tag answers with a refusal
   no-refusal : (tag n : ℕ) → tagAt tag .answer s b ≡ answer.Refused n → ⊥
-  no-refusal tag n = by-tags (λ t. t .answer s b ≡ answer.Refused n → ⊥) edit edit edit edit edit look-extremes look-utilisation edit edit tag
+  no-refusal tag n = by-tags (λ t. t .answer s b ≡ answer.Refused n → ⊥) edit edit edit edit edit look-extremes look-utilisation edit edit edit tag
     where
       edit : answer.Accepted ≡ answer.Refused n → ⊥
       edit e = let z : _≡_ {A = ℕ} 0 1 = cc in omega arith
@@ -66,7 +66,7 @@ sorted false false false false x o =
     }
 
 module _ (input : List ℕ) (room : ℕ) (s : Sheet) where
-  reading-sorted : Sorted (ltb room answerRoom) (isCut input) (unknownTag (tagOf input)) (not (eqb (lengthIn input) (tagAt (tagOf input) .size))) (due input room s)
+  reading-sorted : Sorted (ltb room answerRoom) (isCut input) (unknownTag (tagOf input)) (not (tagAt (tagOf input) .fits (lengthIn input))) (due input room s)
   unfolding due
   reading-sorted = sorted (ltb room answerRoom) (isCut input) (unknownTag (tagOf input)) _ (firstDue (tagAt (tagOf input) .refusals s (bodyOf input))) (tag-due-own s (bodyOf input) (tagOf input))
 
@@ -80,7 +80,7 @@ module _ (input : List ℕ) (room : ℕ) (s : Sheet) where
       let a = chain.none-due (ltb room answerRoom) 14 _ (lit< tt) e in
       let b = chain.none-due (isCut input) 3 _ (lit< tt) (a .1) in
       let c = chain.none-due (unknownTag (tagOf input)) 1 _ (lit< tt) (b .1) in
-      (c .0, chain.none-due (not (eqb (lengthIn input) (tagAt (tagOf input) .size))) 2 _ (lit< tt) (c .1) .1)
+      (c .0, chain.none-due (not (tagAt (tagOf input) .fits (lengthIn input))) 2 _ (lit< tt) (c .1) .1)
 
   -- the answer is the tag's, which is no refusal
   pub none-due : due input room s ≡ 0 → readField input room s .answer ≡ tagAt (tagOf input) .answer s (bodyOf input)

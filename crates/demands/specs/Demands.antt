@@ -17,8 +17,8 @@ use Rattle.sheet.specs.declared.Answer.the-variants as answer
 use Rattle.sheet.specs.Sheet.{freshSheet, kindAt, effectAt, capacityAt}
 use Rattle.sheet.specs.Looks.{capacitiesAt}
 use Rattle.sheet.specs.Range.{InRange}
-use Rattle.fields.specs.Field.{lengthIn, bodyOf, due}
-use Rattle.fields.specs.Field.{fieldTag, readField}
+use Rattle.headers.specs.Headers.{lengthIn, bodyOf}
+use Rattle.fields.specs.Field.{due, fieldTag, readField}
 use Rattle.answers.specs.Answers.{answerBytes, answerRoom}
 use Rattle.decoding.specs.Decoding.{decoded}
 use Rattle.saving.specs.declared.Saved.{Saved}

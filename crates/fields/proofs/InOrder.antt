@@ -4,68 +4,63 @@ use Prim.Native.Nat.{ℕ, _+_, _-_, _≤_, _<_}
 use native.Mathlib.Omega.{arith}
 use mathlib.Core.Path.{_≡_, refl, sym, ap, _∙_}
 use mathlib.Core.List.{List, [], _∷_}
-use mathlib.Core.Logic.{⊎-elim, _⊎_, inl, inr}
+use mathlib.Core.Logic.{⊎-elim}
 use mathlib.Core.Bool.{Bool, true, false, cond, not, _||_}
 use borrow.Author.Tests.{eqb-false, ltb-false}
 use lib.Dec.{eqb, ltb}
-use lib.ListN.{length, take, drop, length-take, length-drop}
-use Rattle.wire.specs.Bytes.{byteAt, wordAt}
+use lib.ListN.{length, getD, length-take, length-drop}
+use Rattle.integers.proofs.Tests.{neither}
 use Rattle.wire.proofs.Cases.{either}
 use Rattle.standard.proofs.Table.{tabulate, same-at}
 use Rattle.refusals.specs.Refusals.{on, firstDue}
 use Rattle.sheet.specs.declared.Sheet.{Sheet}
 use Rattle.sheet.specs.declared.Answer.{Answer}
 use Rattle.sheet.specs.Looks.{unlessDue}
-use Rattle.headers.specs.declared.Header.{Header}
 use Rattle.headers.specs.declared.Header.the-variants.{Field, Short}
-use Rattle.headers.specs.Headers.{longestBody, headerOf, lengthOf, lastTag, dueHeader}
-use Rattle.headers.proofs.Whole.{header-fits}
+use Rattle.headers.specs.Headers.{tagOf, lengthIn, bodyOf, isCut, headerOf, lengthOf, lastTag, nameNumber, nameLength, dueHeader}
+use Rattle.headers.proofs.Whole.{header-fits, by-header}
 use Rattle.answers.specs.Answers.{answerRoom, answerBytes}
 use Rattle.fields.specs.declared.Reading.{Reading}
-use Rattle.tags.specs.Tags.{unknownTag, tagAt}
+use Rattle.tags.specs.Tags.{exactly, unknownTag, strainingTag, tags, tagAt}
 use Rattle.tags.specs.Run.{runOf}
-use Rattle.fields.specs.Field.{tagOf, lengthIn, bodyOf, isCut, due, readField}
+use Rattle.fields.specs.Field.{due, readField}
 use Rattle.fields.specs.Order.{fieldOf, reading, refusedWith, readHeader, readInOrder}
 
 -- ---- the header's refusals
-sizes : tabulate lengthOf 1 lastTag ≡ tabulate (λ tag. tagAt tag .size) 1 lastTag
+-- the lengths of the tags 01 to 09 are those of the table
+sizes : tabulate (λ tag. exactly (lengthOf tag)) 1 lastTag ≡ tabulate (λ tag. getD tags (tag - 1) strainingTag .fits) 1 lastTag
 unfolding lengthOf
 sizes = refl
 
-by-tag : (u v l l′ : Bool) → (u ≡ false → v ≡ false → l ≡ l′) → _≡_ {A = ℕ} (cond u 1 (cond v 1 (cond l 0 2))) (cond (u || v) 1 (cond (not l′) 2 0))
+by-tag : (u v l l′ : Bool) → ((u || v) ≡ false → l ≡ l′) → _≡_ {A = ℕ} (cond u 1 (cond v 1 (cond l 0 2))) (cond (u || v) 1 (cond (not l′) 2 0))
 by-tag true v l l′ h = refl
 by-tag false true l l′ h = refl
 by-tag false false true true h = refl
 by-tag false false false false h = refl
-by-tag false false true false h = absurd (let z : _≡_ {A = ℕ} 0 1 = cc (h refl refl) in omega arith)
-by-tag false false false true h = absurd (let z : _≡_ {A = ℕ} 0 1 = cc (h refl refl) in omega arith)
+by-tag false false true false h = absurd (let z : _≡_ {A = ℕ} 0 1 = cc (h refl) in omega arith)
+by-tag false false false true h = absurd (let z : _≡_ {A = ℕ} 0 1 = cc (h refl) in omega arith)
 
-header-is : (tag len : ℕ) → dueHeader tag len ≡ firstDue (on (unknownTag tag) 1 ∷ on (not (eqb len (tagAt tag .size))) 2 ∷ [])
+header-is : (tag len : ℕ) → dueHeader tag len ≡ firstDue (on (unknownTag tag) 1 ∷ on (not (tagAt tag .fits len)) 2 ∷ [])
 unfolding dueHeader
 header-is tag len =
-    by-tag (eqb tag 0) (ltb lastTag tag) (eqb len (lengthOf tag)) (eqb len (tagAt tag .size))
-    (λ a b. ap (eqb len) (same-at lengthOf (λ t. tagAt t .size) 1 lastTag tag sizes (omega (arith, eqb-false tag 0 a)) (omega (arith, ltb-false lastTag tag b))))
+    ⊎-elim
+    (λ e. rw e (by-tag false false (nameLength len) (nameLength len) (λ _. refl)))
+    (λ e. rw e (by-tag (eqb tag 0) (ltb lastTag tag) (eqb len (lengthOf tag)) (getD tags (tag - 1) strainingTag .fits len) listed))
+    (either (eqb tag nameNumber))
+  where
+    listed : (eqb tag 0 || ltb lastTag tag) ≡ false → eqb len (lengthOf tag) ≡ getD tags (tag - 1) strainingTag .fits len
+    listed n =
+        let k = neither (eqb tag 0) (ltb lastTag tag) n in
+        ap (λ (f : ℕ → Bool). f len)
+        (same-at (λ t. exactly (lengthOf t)) (λ t. getD tags (t - 1) strainingTag .fits) 1 lastTag tag sizes
+        (omega (arith, eqb-false tag 0 (k .0))) (omega (arith, ltb-false lastTag tag (k .1))))
 
 no-test : (u v : Bool) → _≡_ {A = ℕ} (cond u 1 (cond v 2 0)) 0 → u ≡ false
 no-test true v e = absurd (let z : _≡_ {A = ℕ} 1 0 = e in omega arith)
 no-test false v e = refl
 
 pub known-tag : (tag len : ℕ) → dueHeader tag len ≡ 0 → unknownTag tag ≡ false
-known-tag tag len e = no-test (unknownTag tag) (not (eqb len (tagAt tag .size))) (sym (header-is tag len) ∙ e)
-
--- ---- the header
-header-cases : (a b c : Bool) (h : Header) →
-    (((a || (b || c)) ≡ true) × (cond a Short (cond b Short (cond c Short h)) ≡ Short))
-    ⊎ (((a || (b || c)) ≡ false) × (cond a Short (cond b Short (cond c Short h)) ≡ h))
-header-cases true b c h = inl (refl, refl)
-header-cases false true c h = inl (refl, refl)
-header-cases false false true h = inl (refl, refl)
-header-cases false false false h = inr (refl, refl)
-
-pub by-header : (input : List ℕ) → ((isCut input ≡ true) × (headerOf input ≡ Short)) ⊎ ((isCut input ≡ false) × (headerOf input ≡ Field (tagOf input) (lengthIn input)))
-unfolding headerOf
-by-header input =
-    header-cases (ltb (length input) 3) (ltb longestBody (wordAt input 1)) (ltb (length input - 3) (wordAt input 1)) (Field (byteAt input 0) (wordAt input 1))
+known-tag tag len e = no-test (unknownTag tag) (not (tagAt tag .fits len)) (sym (header-is tag len) ∙ e)
 
 -- 1 and 2 come before the refusals of the tag
 by-header-refusals : (u v : Bool) (n : ℕ) (a : Answer) (s s′ : Sheet) (k : ℕ) →
@@ -104,7 +99,7 @@ module _ (input : List ℕ) (room : ℕ) (s : Sheet) where
       let b = bodyOf input in
       let g = tagAt (tagOf input) in
       rw (r, k, h, body-long h, header-is (tagOf input) (lengthIn input))
-      (by-header-refusals (unknownTag (tagOf input)) (not (eqb (lengthIn input) (g .size))) (firstDue (g .refusals s b)) (g .answer s b) s (g .after s b) (3 + lengthIn input))
+      (by-header-refusals (unknownTag (tagOf input)) (not (g .fits (lengthIn input))) (firstDue (g .refusals s b)) (g .answer s b) s (g .after s b) (3 + lengthIn input))
 
   pub read-is : readField input room s ≡ readInOrder input room s
   read-is =

@@ -30,7 +30,7 @@ unfolding lookedExtremes lookedUtilisation
 run-kept s tag b h =
     run-by AnsweredInRange s tag b (restarted s _ _ _ h) (tried-kept _ s _ h (fill-kept s _ _ h)) (tried-kept _ s _ h (effects-kept s _ _ _ _ _ h))
     (tried-kept _ s _ h (emptied-kept s _ h)) (tried-kept _ s _ h (capacities-kept s _ _ _ _ h)) h h (tried-kept _ s _ h (switch-kept s _ h))
-    (tried-kept _ s _ h (straining-kept s _ h))
+    (tried-kept _ s _ h (straining-kept s _ h)) (tried-kept _ s s h (λ _. h))
 
 pub field-kept : (s : Sheet) (tag : ℕ) (b : List ℕ) → InRange s → InRange (fieldOf s tag b .sheet)
 unfolding fieldOf

@@ -14,7 +14,7 @@ use Rattle.sheet.specs.declared.Answered.{Answered}
 use Rattle.refusals.specs.Refusals.{firstDue}
 use Rattle.headers.specs.declared.Header.{Header}
 use Rattle.headers.specs.declared.Header.the-variants.{Field, Short}
-use Rattle.headers.specs.Headers.{headerOf, lengthOf, lastTag, dueHeader, consumedBy, consumedOf, readyOf}
+use Rattle.headers.specs.Headers.{headerOf, lengthOf, lastTag, nameNumber, nameLength, dueHeader, consumedBy, consumedOf, readyOf}
 use Rattle.fields.specs.Field.{readField}
 use Rattle.tags.specs.Run.{runOf}
 use Rattle.fields.specs.Order.{fieldOf, readHeader, readInOrder}
@@ -34,8 +34,11 @@ NotLast a = lastOf a ≡ false
 header-not-3 : (tag len : ℕ) → eqb (dueHeader tag len) 3 ≡ false
 unfolding dueHeader
 header-not-3 tag len =
-    both (λ (n : ℕ). eqb n 3 ≡ false) (eqb tag 0) refl
-    (both (λ (n : ℕ). eqb n 3 ≡ false) (ltb lastTag tag) refl (both (λ (n : ℕ). eqb n 3 ≡ false) (eqb len (lengthOf tag)) refl refl))
+    both Not3 (eqb tag nameNumber) (both Not3 (nameLength len) refl refl)
+    (both Not3 (eqb tag 0) refl (both Not3 (ltb lastTag tag) refl (both Not3 (eqb len (lengthOf tag)) refl refl)))
+  where
+    Not3 : ℕ → Type 0
+    Not3 n = eqb n 3 ≡ false
 
 abbrev NotLastAnswer : Answered → Type 0
 NotLastAnswer a = NotLast (a .answer)
@@ -43,7 +46,7 @@ NotLastAnswer a = NotLast (a .answer)
 run-not-last : (s : Sheet) (tag : ℕ) (b : List ℕ) → NotLastAnswer (runOf s tag b)
 unfolding runOf
 run-not-last s tag b =
-    both NotLast (eqb (firstDue (tagAt tag .refusals s b)) 0) (by-tags (λ t. NotLast (t .answer s b)) refl refl refl refl refl refl refl refl refl tag)
+    both NotLast (eqb (firstDue (tagAt tag .refusals s b)) 0) (by-tags (λ t. NotLast (t .answer s b)) refl refl refl refl refl refl refl refl refl refl tag)
     (tag-due-own s b tag .not-3)
 
 field-not-last : (s : Sheet) (tag : ℕ) (b : List ℕ) → NotLastAnswer (fieldOf s tag b)

@@ -6,3 +6,4 @@ pub mod Within
 pub mod Consumed
 pub mod Ready
 pub mod Last
+pub mod Alone

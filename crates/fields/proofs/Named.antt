@@ -68,7 +68,7 @@ module _ (s : Sheet) (station : ℕ) where
 run-fits : (s : Sheet) (tag : ℕ) (b : List ℕ) → Fits (runOf s tag b)
 run-fits s tag b =
     run-by Fits s tag b (edit-fits (unlessRefused _ s _)) (edit-fits (unlessRefused _ s _)) (edit-fits (unlessRefused _ s _)) (edit-fits (unlessRefused _ s _)) (edit-fits (unlessRefused _ s _))
-    (extremes-fit s _ _) (utilisation-fits s _) (edit-fits (unlessRefused _ s _)) (edit-fits (unlessRefused _ s _))
+    (extremes-fit s _ _) (utilisation-fits s _) (edit-fits (unlessRefused _ s _)) (edit-fits (unlessRefused _ s _)) (edit-fits (unlessRefused _ s _))
 
 pub field-fits : (s : Sheet) (tag : ℕ) (b : List ℕ) → RowsFit (fieldOf s tag b .answer)
 unfolding fieldOf

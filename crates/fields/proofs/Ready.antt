@@ -8,7 +8,7 @@ use mathlib.Core.Bool.{Bool, true, false, cond}
 use mathlib.Core.Logic.{⊎-elim, _⊎_, inl, inr}
 use native.Mathlib.Omega.{arith}
 use borrow.Author.Tests.{ltb-false, le-ltb}
-use lib.ListN.{length, take, drop, length-append, length-drop, List·getD-append}
+use lib.ListN.{length, take, drop, length-append, length-drop}
 use lib.Seq.{take-append-le, drop-append-le}
 use lib.Dec.{ltb}
 use Rattle.wire.specs.Bytes.{byteAt, wordAt}
@@ -22,6 +22,7 @@ use Rattle.fields.specs.Field.{readField}
 use Rattle.fields.specs.Order.{readHeader, readInOrder}
 use Rattle.fields.proofs.InOrder.{read-is}
 use Rattle.headers.proofs.Whole.{header-fits}
+use Rattle.headers.proofs.Following.{byte-same, length-same}
 
 -- the second reading has the first one's answer and sheet, and consumes as much unless it is a 3
 pub record SameReading (r r′ : Reading) : Type 0 where
@@ -43,12 +44,6 @@ by-room true a r r′ h = record { answer = refl; sheet = refl; consumed = λ _.
 by-room false a r r′ h = h
 
 module _ (s t : List ℕ) where
-  byte-same : (n : ℕ) → n + 1 ≤ length s → byteAt (s ++ t) n ≡ byteAt s n
-  byte-same n h = List·getD-append s t 0 n (omega arith)
-
-  word-same : 3 ≤ length s → wordAt (s ++ t) 1 ≡ wordAt s 1
-  word-same h = rw (byte-same 1 (omega arith), byte-same 2 (omega arith))
-
   pub header-same : readyOf s ≡ true → headerOf (s ++ t) ≡ headerOf s
   unfolding headerOf readyOf
   header-same e =
@@ -63,7 +58,7 @@ module _ (s t : List ℕ) where
       let k′ : wordAt s 1 ≤ length (s ++ t) - 3 = omega arith in
       inr (le-ltb (length (s ++ t) - 3) (wordAt s 1) k′ ∙ sym (b .1)))
       (x .1) in
-      rw (le-ltb (length (s ++ t)) 3 a′, x .0, word-same a, byte-same 0 (omega arith))
+      rw (le-ltb (length (s ++ t)) 3 a′, x .0, length-same s t a, byte-same s t 0 (omega arith))
       (later-tests (ltb longestBody (wordAt s 1)) (ltb (length (s ++ t) - 3) (wordAt s 1)) (ltb (length s - 3) (wordAt s 1)) (Field (byteAt s 0) (wordAt s 1)) c)
 
   body-same : (len : ℕ) → 3 + len ≤ length s → take len (drop 3 (s ++ t)) ≡ take len (drop 3 s)

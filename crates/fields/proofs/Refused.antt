@@ -35,7 +35,7 @@ run-unedited : (s : Sheet) (tag : ℕ) (b : List ℕ) → Unedited s (runOf s ta
 unfolding lookedExtremes lookedUtilisation
 run-unedited s tag b =
     run-by (Unedited s) s tag b (tried-unedited _ s _) (tried-unedited _ s _) (tried-unedited _ s _) (tried-unedited _ s _) (tried-unedited _ s _)
-    (λ _. refl) (λ _. refl) (tried-unedited _ s _) (tried-unedited _ s _)
+    (λ _. refl) (λ _. refl) (tried-unedited _ s _) (tried-unedited _ s _) (tried-unedited _ s _)
 
 field-unedited : (s : Sheet) (tag : ℕ) (b : List ℕ) → Unedited s (fieldOf s tag b)
 unfolding fieldOf

@@ -1,38 +1,23 @@
 -- SCOPE 5.3 and 7: one reading, and which refusal is due first.
-use Prim.Native.Nat.{ℕ, _-_}
+use Prim.Native.Nat.{ℕ}
 use mathlib.Core.List.{List, _∷_}
-use mathlib.Core.Bool.{Bool, cond, not, _||_}
-use lib.ListN.{length, take, drop}
+use mathlib.Core.Bool.{cond, not}
+use lib.ListN.{length}
 use lib.Dec.{ltb, eqb}
-use Rattle.wire.specs.Bytes.{byteAt, wordAt}
 use Rattle.refusals.specs.Refusals.{Refusal, on, firstDue}
 use Rattle.sheet.specs.declared.Sheet.{Sheet}
 use Rattle.sheet.specs.declared.Answer.{Answer}
 use Rattle.sheet.specs.Looks.{unlessDue}
-use Rattle.headers.specs.Headers.{longestBody, consumedBy}
+use Rattle.headers.specs.Headers.{tagOf, lengthIn, bodyOf, isCut, consumedBy}
 use Rattle.answers.specs.Answers.{answerRoom, answerBytes}
 use Rattle.fields.specs.declared.Reading.{Reading}
 use Rattle.tags.specs.Tags.{Tag, unknownTag, tagAt}
-
--- a field's tag, its length and its body (SCOPE 5.1)
-abbrev pub tagOf : List ℕ → ℕ
-tagOf input = byteAt input 0
-
-abbrev pub lengthIn : List ℕ → ℕ
-lengthIn input = wordAt input 1
-
-abbrev pub bodyOf : List ℕ → List ℕ
-bodyOf input = take (lengthIn input) (drop 3 input)
-
--- header or body goes past the end, or the length is above 60,000 (SCOPE 7.1)
-abbrev pub isCut : List ℕ → Bool
-isCut input = ltb (length input) 3 || (ltb longestBody (lengthIn input) || ltb (length input - 3) (lengthIn input))
 
 -- the refusals of a reading in their order: 14, 3, 1, 2, and then those of the tag (SCOPE 7.2)
 abbrev pub refusalsOf : List ℕ → ℕ → Sheet → List Refusal
 refusalsOf input room s =
     on (ltb room answerRoom) 14 ∷ on (isCut input) 3 ∷ on (unknownTag (tagOf input)) 1
-    ∷ on (not (eqb (lengthIn input) (tagAt (tagOf input) .size))) 2
+    ∷ on (not (tagAt (tagOf input) .fits (lengthIn input))) 2
     ∷ tagAt (tagOf input) .refusals s (bodyOf input)
 
 -- the number of the first that is due, 0 where none is (SCOPE 7.2)

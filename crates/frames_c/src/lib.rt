@@ -1,10 +1,13 @@
-// For programs in C and Rust: lists of fields, answered on a sheet that is given as its saved bytes. No call keeps a state.
+// For programs in C and Rust: lists of fields, answered on a sheet that is given as its saved bytes, and case names in a file. No call keeps
+// a state.
 use dead_sums::DEAD_SUMS;
+use drawing::NamePlace;
 use effects::EFFECTS;
 use saving::Saved;
 ghost use mathlib.Core.Path.{_≡_};
 ghost use lib.ListN.{length};
 ghost use Rattle.lists.specs.Lists.{fieldsOf};
+ghost use Rattle.drawing.specs.Names.{namePlace};
 ghost use Rattle.frames_c.specs.Calls.{AnswerDone, RunDone, countOf};
 
 // The bytes to save into that a run asks for, more than a saved sheet has.
@@ -88,4 +91,12 @@ pub extern "C" fn frames_run(state: &[u8], input: &[u8], output: &mut [u8], save
         written: 0,
         saved: 0,
     }
+}
+
+// Where the name of a load case stands in a file: no bytes where it has none.
+#[no_mangle]
+pub extern "C" fn frames_name(file: &[u8], case: u8) -> NamePlace
+    ensures { λ r. ⌜ r ≡ namePlace (now (file .entry)) case ⌝ }
+{
+    drawing::name_place(file, case)
 }

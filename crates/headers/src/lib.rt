@@ -1,10 +1,13 @@
 // The header of a field: what it says of tag and length, and how much a reading consumes.
 ghost use mathlib.Core.Path.{_≡_};
-ghost use Rattle.headers.specs.Headers.{headerOf, lengthOf, dueHeader, consumedBy, readyOf};
+ghost use Rattle.headers.specs.Headers.{headerOf, lengthOf, nameLength, dueHeader, consumedBy, readyOf};
 
 const LONGEST_BODY: usize = 60000;
 
 const LAST_TAG: u8 = 9;
+
+// The tag of a case name.
+pub const NAME_TAG: u8 = 0x60;
 
 // A whole field at the front of the input, or one that goes past its end.
 pub enum Header {
@@ -48,10 +51,20 @@ fn right_length(tag: u8) -> usize
     }
 }
 
+// Whether a case byte and a name may have this length together.
+pub fn is_name_length(len: usize) -> bool
+    ensures { λ r. ⌜ r ≡ nameLength len ⌝ }
+{
+    2 <= len && len <= 25
+}
+
 // The refusal that tag and length call for: 1, 2 or none.
 pub fn due_header(tag: u8, len: usize) -> u8
     ensures { λ r. ⌜ r ≡ dueHeader tag len ⌝ }
 {
+    if tag == NAME_TAG {
+        return refusals::first(is_name_length(len), 0, 2);
+    }
     let d = refusals::first(len == right_length(tag), 0, 2);
     let d = refusals::first(LAST_TAG < tag, 1, d);
     refusals::first(tag == 0, 1, d)

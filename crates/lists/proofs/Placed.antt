@@ -5,21 +5,18 @@ use mathlib.Core.Path.{_≡_, sym, _∙_, ap}
 use mathlib.Core.List.{List, [], append-nil, append-assoc}
 use native.Mathlib.Omega.{arith}
 use lib.ListN.{length, take, drop, length-drop, drop-of-length-le}
-use lib.Seq.{sets, sets-eq, take-all, drop-drop}
+use lib.Seq.{sets, sets-eq, drop-drop}
 use borrow.Rule.Slice.PartMut.{putMid}
 use Rattle.wire.specs.Bytes.{over}
 use Rattle.sheet.specs.declared.Sheet.{Sheet}
 use Rattle.fields.specs.declared.Reading.{Reading}
 use Rattle.headers.specs.Headers.{consumedBy}
+use Rattle.headers.proofs.Whole.{part-from}
 use Rattle.fields.specs.Field.{readField}
 use Rattle.answers.specs.Answers.{answerBytes, answerRoom}
 use Rattle.fields.specs.Readings.{FieldRead}
 use Rattle.fields.proofs.Consumed.{same-with-room, read-consumed, read-written}
 use Rattle.answers.proofs.Room.{answer-fits}
-
--- a part of a slice that goes to its end
-pub part-from : (w : List ℕ) (i : ℕ) → take (length w - i) (drop i w) ≡ drop i w
-part-from w i = take-all (length w - i) (drop i w) (rw length-drop (omega arith))
 
 -- a part that starts within a list ends where the list does
 pub part-long : (w : List ℕ) (i : ℕ) → i ≤ length w → i + length (take (length w - i) (drop i w)) ≡ length w

@@ -1,5 +1,4 @@
 pub mod Held
 pub mod Tags
 pub mod Readings
-pub mod Fields
 pub mod Offices

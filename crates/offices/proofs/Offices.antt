@@ -18,15 +18,16 @@ use Rattle.sheet.proofs.Kept.{fresh-kept}
 use Rattle.answers.specs.Answers.{answerBytes}
 use Rattle.tags.specs.Tags.{unknownTag, tagAt}
 use Rattle.fields.specs.declared.Reading.{Reading}
-use Rattle.fields.specs.Field.{tagOf, bodyOf, readField}
+use Rattle.headers.specs.Headers.{tagOf, bodyOf, fieldIn}
+use Rattle.fields.specs.Field.{readField}
+use Rattle.fields.proofs.Alone as alone
 use Rattle.demands.specs.Readings.{Made, ReadOn, Readings, none, next}
 use Rattle.demands.proofs.Readings.{take-over, read-in-range}
 use Rattle.demands.proofs.Due.{none-own, none-after, accepted-due}
 use Rattle.offices.specs.Offices as offices
-use Rattle.offices.specs.Offices.{effectsField, capacitiesField, fieldIn, AcceptedInBoth, DifferElsewhere, Paired, AtEachPlace, LooksElsewhere, SameAnswer, SameForStation, HoldsSameAt, DependsOnStation, TwoOffices}
+use Rattle.offices.specs.Offices.{effectsField, capacitiesField, AcceptedInBoth, DifferElsewhere, Paired, AtEachPlace, LooksElsewhere, SameAnswer, SameForStation, HoldsSameAt, DependsOnStation, TwoOffices}
 use Rattle.offices.proofs.Held.{holds-itself, effects-same, capacities-same}
 use Rattle.offices.proofs.Readings.{read-same}
-use Rattle.offices.proofs.Fields.{field-alone}
 
 -- ---- the bytes of an answer
 written-bytes : {s : Sheet} {m : Made} → ReadOn s m → take (m .result .written) (m .out′) ≡ answerBytes (m .result .answer)
@@ -49,11 +50,8 @@ module _ {t : ℕ} {s v : Sheet} (h : InRange s) (g : InRange v) (a : t < statio
       ((LooksElsewhere t x → ⊥) → readField x room s .answer ≡ readField y room v .answer) × HoldsSameAt t (readField x room s .sheet) (readField y room v .sheet)
   same-field x y room limit e =
       let r = read-same h g a same x room limit in
-      let p = field-alone x room v in
-      let q = field-alone y room v in (
-        λ ne. r .answer ne ∙ p .answer ∙ ap (λ (z : List ℕ). readField z room v .answer) e ∙ sym (q .answer),
-        subst (HoldsSameAt t (readField x room s .sheet)) (p .sheet ∙ ap (λ (z : List ℕ). readField z room v .sheet) e ∙ sym (q .sheet)) (r .sheet),
-      )
+      let p = alone.same-field room v x y e in
+      (λ ne. r .answer ne ∙ p .answer, subst (HoldsSameAt t (readField x room s .sheet)) (p .sheet) (r .sheet))
 
   -- fields that are accepted on both sheets, by what their tags make of these
   both-accepted : (x y : List ℕ) (room : ℕ) → readField x room s .answer ≡ answer.Accepted → readField y room v .answer ≡ answer.Accepted →

@@ -2,7 +2,7 @@
 -- Assumes nothing.
 use Prim.Native.Nat.{ℕ, zero, suc, _+_, _-_, _≤_, _<_}
 use native.Mathlib.Omega.{arith}
-use borrow.Author.Tests.{eqb-true, ne-eqb, ltb-false}
+use borrow.Author.Tests.{eqb-true, ne-eqb}
 use mathlib.Core.Path.{_≡_, refl, sym, _∙_, subst}
 use mathlib.Core.Bool.{true, false, false≢true}
 use mathlib.Core.List.{List, [], _∷_}
@@ -12,15 +12,15 @@ use lib.ListN.{length, drop}
 use lib.Seq.{drop-cons, getD-take, getD-drop}
 use Rattle.wire.specs.Bytes.{byteAt}
 use Rattle.wire.proofs.Cases.{either, both}
-use Rattle.integers.proofs.Tests.{neither}
 use Rattle.envelope.specs.Range.{stationCount, componentCount}
 use Rattle.refusals.specs.Refusals.{firstDue}
 use Rattle.sheet.specs.declared.Sheet.{Sheet}
 use Rattle.sheet.specs.Range.{InRange}
-use Rattle.headers.specs.Headers.{longestBody}
 use Rattle.tags.specs.Tags.{unknownTag, tagAt}
 use Rattle.answers.specs.Answers.{answerRoom}
-use Rattle.fields.specs.Field.{tagOf, lengthIn, bodyOf, isCut, due, readField}
+use Rattle.headers.specs.Headers.{tagOf, lengthIn, bodyOf, isCut}
+use Rattle.headers.proofs.Whole.{whole-long}
+use Rattle.fields.specs.Field.{due, readField}
 use Rattle.offices.specs.Offices.{LooksElsewhere, extremes, utilisation, HoldsSameAt}
 use Rattle.offices.proofs.Tags.{TagSame, LookAtOther, by-station}
 
@@ -30,11 +30,6 @@ pub record ReadSame (t : ℕ) (x : List ℕ) (room : ℕ) (s v : Sheet) : Type 0
   pub sheet : HoldsSameAt t (readField x room s .sheet) (readField x room v .sheet)
 
 -- ---- a look, from its bytes
-whole-long : (x : List ℕ) → isCut x ≡ false → 3 + lengthIn x ≤ length x
-whole-long x e =
-    let p = neither (ltb (length x) 3) _ e in
-    let q = neither (ltb longestBody (lengthIn x)) (ltb (length x - 3) (lengthIn x)) (p .1) in
-    omega (arith, ltb-false (length x) 3 (p .0), ltb-false (length x - 3) (lengthIn x) (q .1))
 
 -- the front of a field with a body of few bytes, up to the first of them
 front : (n : ℕ) → n < 255 → (x : List ℕ) → lengthIn x ≡ suc n → 4 ≤ length x → x ≡ tagOf x ∷ 0 ∷ suc n ∷ byteAt x 3 ∷ drop 4 x
@@ -50,12 +45,12 @@ front n few (c0 ∷ c1 ∷ c2 ∷ u ∷ rest) e l =
 body-at : (x : List ℕ) (i : ℕ) → i < lengthIn x → byteAt (bodyOf x) i ≡ byteAt x (3 + i)
 body-at x i l = getD-take (lengthIn x) (drop 3 x) i 0 l ∙ getD-drop 3 x i 0
 
-look-form : (t : ℕ) (x : List ℕ) → isCut x ≡ false → lengthIn x ≡ tagAt (tagOf x) .size → LookAtOther t (bodyOf x) (tagOf x) → LooksElsewhere t x
-look-form t x whole size l = ⊎-elim six seven (l .look)
+look-form : (t : ℕ) (x : List ℕ) → isCut x ≡ false → tagAt (tagOf x) .fits (lengthIn x) ≡ true → LookAtOther t (bodyOf x) (tagOf x) → LooksElsewhere t x
+look-form t x whole fits l = ⊎-elim six seven (l .look)
   where
     six : (tagOf x ≡ 6) × (byteAt (bodyOf x) 1 < componentCount) → LooksElsewhere t x
     six k =
-        let two : lengthIn x ≡ 2 = rw (k .0) at size in
+        let two : lengthIn x ≡ 2 = eqb-true (lengthIn x) 2 (rw (k .0) at fits) in
         let long : 5 ≤ length x = omega (arith, whole-long x whole, two) in
         let first = body-at x 0 (omega (arith, two)) in
         let second = body-at x 1 (omega (arith, two)) in
@@ -64,7 +59,7 @@ look-form t x whole size l = ⊎-elim six seven (l .look)
 
     seven : tagOf x ≡ 7 → LooksElsewhere t x
     seven e =
-        let one : lengthIn x ≡ 1 = rw e at size in
+        let one : lengthIn x ≡ 1 = eqb-true (lengthIn x) 1 (rw e at fits) in
         let long : 4 ≤ length x = omega (arith, whole-long x whole, one) in
         let first = body-at x 0 (omega (arith, one)) in
         subst (LooksElsewhere t) (sym (front 0 (lit< tt) x one long ∙ rw e)) (utilisation (byteAt x 3) (drop 4 x) (rw first at (l .station)) (rw first at (l .other)))
@@ -82,7 +77,7 @@ module _ {t : ℕ} {s v : Sheet} (h : InRange s) (g : InRange v) (a : t < statio
       let not-none = ne-eqb n 0 (λ z. omega arith) in
       record { answer = λ _. rw (e s, e v, not-none); sheet = rw (e s, e v, not-none) same }
 
-  module _ (r : ltb room answerRoom ≡ false) (c : isCut x ≡ false) (u : unknownTag (tagOf x) ≡ false) (w : eqb (lengthIn x) (tagAt (tagOf x) .size) ≡ true) where
+  module _ (r : ltb room answerRoom ≡ false) (c : isCut x ≡ false) (u : unknownTag (tagOf x) ≡ false) (w : tagAt (tagOf x) .fits (lengthIn x) ≡ true) where
     -- what passes the tests of the header is left to the refusals of its tag
     due-own : (z : Sheet) → due x room z ≡ firstDue (tagAt (tagOf x) .refusals z (bodyOf x))
     unfolding due
@@ -107,7 +102,7 @@ module _ {t : ℕ} {s v : Sheet} (h : InRange s) (g : InRange v) (a : t < statio
     unfolding readField
     look-read l =
         record {
-          answer = λ ne. absurd (ne (look-form t x c (eqb-true (lengthIn x) _ w) l));
+          answer = λ ne. absurd (ne (look-form t x c w l));
           sheet = subst (λ (y : Sheet). HoldsSameAt t y (readField x room v .sheet)) (sym (stays s)) (subst (HoldsSameAt t s) (sym (stays v)) same);
         }
       where
@@ -123,13 +118,13 @@ module _ {t : ℕ} {s v : Sheet} (h : InRange s) (g : InRange v) (a : t < statio
       limited u = ⊎-elim (λ l. l) (λ e. absurd (false≢true (sym u ∙ e))) limit
 
       length-test : ltb room answerRoom ≡ false → isCut x ≡ false → unknownTag (tagOf x) ≡ false →
-          (eqb (lengthIn x) (tagAt (tagOf x) .size) ≡ true) ⊎ (eqb (lengthIn x) (tagAt (tagOf x) .size) ≡ false) → ReadSame t x room s v
+          (tagAt (tagOf x) .fits (lengthIn x) ≡ true) ⊎ (tagAt (tagOf x) .fits (lengthIn x) ≡ false) → ReadSame t x room s v
       length-test r c u (inl w) = ⊎-elim (tag-read r c u w) (look-read r c u w) (by-station h g a same (bodyOf x) (tagOf x) (known-some (tagOf x) u) (limited u))
       length-test r c u (inr w) = header-refused 2 (lit< tt) (λ z. rw (r, c, u, w))
 
       tag-test : ltb room answerRoom ≡ false → isCut x ≡ false → (unknownTag (tagOf x) ≡ true) ⊎ (unknownTag (tagOf x) ≡ false) → ReadSame t x room s v
       tag-test r c (inl u) = header-refused 1 (lit< tt) (λ z. rw (r, c, u))
-      tag-test r c (inr u) = length-test r c u (either (eqb (lengthIn x) (tagAt (tagOf x) .size)))
+      tag-test r c (inr u) = length-test r c u (either (tagAt (tagOf x) .fits (lengthIn x)))
 
       cut-test : ltb room answerRoom ≡ false → (isCut x ≡ true) ⊎ (isCut x ≡ false) → ReadSame t x room s v
       cut-test r (inl c) = header-refused 3 (lit< tt) (λ z. rw (r, c))

@@ -11,9 +11,8 @@ use Rattle.sheet.specs.declared.Sheet.{Sheet}
 use Rattle.sheet.specs.declared.Answer.the-variants as answer
 use Rattle.sheet.specs.Sheet.{freshSheet, kindAt, effectAt, capacityAt}
 use Rattle.sheet.specs.Range.{InRange}
-use Rattle.headers.specs.Headers.{consumedBy}
 use Rattle.tags.specs.Tags.{unknownTag}
-use Rattle.fields.specs.Field.{tagOf}
+use Rattle.headers.specs.Headers.{tagOf, fieldIn}
 use Rattle.demands.specs.Readings.{Made, ReadOn, Readings}
 use Rattle.demands.specs.Demands.{lookExtremes, lookUtilisation}
 
@@ -25,10 +24,6 @@ effectsField case station rest = 3 ∷ 0 ∷ 8 ∷ case ∷ station ∷ rest
 
 abbrev pub capacitiesField : ℕ → List ℕ → List ℕ
 capacitiesField station rest = 5 ∷ 0 ∷ 7 ∷ station ∷ rest
-
--- the bytes of a field, without what follows it; where it is cut, all that is left (SCOPE 5.3, 7.3)
-abbrev pub fieldIn : List ℕ → List ℕ
-fieldIn input = take (consumedBy input) input
 
 -- such a field is accepted in both lists (SCOPE 9.5)
 abbrev pub AcceptedInBoth : Made → Made → Type 0

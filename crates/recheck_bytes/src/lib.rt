@@ -1,7 +1,7 @@
 // Bytes of fields and answers, read with no error: past the end stands 0, and the callers look at lengths first.
 
 ghost use mathlib.Core.Path.{_≡_};
-ghost use Prim.Native.Nat.{_+_, _<_};
+ghost use Prim.Native.Nat.{_+_, _<_, _≤_};
 ghost use lib.ListN.{length};
 ghost use Rattle.recheck_bytes.specs.Bytes.{byteAt, pairAt, numberAt, sameUpTo, filledUpTo};
 
@@ -32,7 +32,7 @@ pub fn index_at(s: &[u8], at: usize) -> usize
 
 // Two bytes, the high one first.
 pub fn pair_at(s: &[u8], at: usize) -> u16
-    requires { ⌜ at < 60000 ⌝ }
+    requires { ⌜ at ≤ 1000000 ⌝ }
     ensures { λ r. ⌜ r ≡ pairAt (now (s .entry)) at ⌝ }
 {
     let high = byte_at(s, at);

@@ -12,6 +12,8 @@ use recheck_bytes::index_at;
 use recheck_bytes::number_at;
 use recheck_bytes::pair_at;
 use recheck_bytes::same_at;
+use recheck_names::NAME_TAG;
+use recheck_names::is_name_length;
 use recheck_sums::SUMS;
 use recheck_sums::sums_are;
 use saving::Saved;
@@ -89,11 +91,12 @@ fn by_method(sheet: Sheet, field: &[u8]) -> Answered
         6 => sheet.look_extremes(first, second),
         7 => sheet.look_utilisation(first),
         8 => sheet.switch_ice(first),
+        NAME_TAG => sheet.name_case(first),
         _ => sheet.set_straining(pair_at(field, 3)),
     }
 }
 
-// The length of a tag's body; one that no field has for an unknown tag.
+// The length of the body of a tag other than 60; one that no field has for an unknown tag.
 fn body_length(tag: u8) -> u16 {
     match tag {
         1 => 3,
@@ -105,9 +108,16 @@ fn body_length(tag: u8) -> u16 {
     }
 }
 
+fn is_length(tag: u8, length: u16) -> bool {
+    if tag == NAME_TAG {
+        return is_name_length(length);
+    }
+    length == body_length(tag)
+}
+
 fn is_whole(field: &[u8]) -> bool {
     let length = pair_at(field, 1);
-    (length == body_length(byte_at(field, 0))) & (field.len() == 3 + length as usize)
+    is_length(byte_at(field, 0), length) & (field.len() == 3 + length as usize)
 }
 
 // An extreme against its 17 bytes.

@@ -4,9 +4,11 @@ ghost use Prim.Native.Nat.{_≤_, _<_};
 use recheck_bytes::byte_at;
 use recheck_bytes::index_at;
 use recheck_bytes::pair_at;
+use recheck_names::NAME_TAG;
+use recheck_names::is_name_length;
 use recheck_sheet::WorkingSheet;
 
-// How long the body of a tag is; a length that no field has for an unknown tag.
+// How long the body of a tag other than 60 is; a length that no field has for an unknown tag.
 fn body_length(tag: u8) -> u16 {
     match tag {
         1 => 3,
@@ -39,17 +41,24 @@ fn first(a: u8, b: u8) -> u8
     if a == 0 { b } else { a }
 }
 
+// The tag is unknown, or the length is not the tag's.
+fn length_refusal(tag: u8, length: u16) -> u8
+    ensures { λ r. ⌜ r ≤ 15 ⌝ }
+{
+    if tag == NAME_TAG {
+        return due(!is_name_length(length), 2);
+    }
+    let wanted = body_length(tag);
+    first(due(wanted == 65535, 1), due(length != wanted, 2))
+}
+
 fn header_refusal(field: &[u8]) -> u8
     ensures { λ r. ⌜ r ≤ 15 ⌝ }
 {
     let n = field.len();
     let length = pair_at(field, 1);
-    let wanted = body_length(byte_at(field, 0));
     let cut = due((n < 3) | (length > 60000) | (n < 3 + length as usize), 3);
-    first(
-        cut,
-        first(due(wanted == 65535, 1), due(length != wanted, 2)),
-    )
+    first(cut, length_refusal(byte_at(field, 0), length))
 }
 
 fn case_refusal(field: &[u8], at: usize) -> u8
@@ -134,7 +143,7 @@ fn body_refusal(method: u8, field: &[u8]) -> u8
             let moments = first(effect_refusal(field, 7), effect_refusal(field, 9));
             first(first(case, station_refusal(field, 4)), first(n, moments))
         }
-        4 => case,
+        4 | NAME_TAG => case,
         5 => {
             let n = capacity_refusal(field, 4);
             let moments = first(capacity_refusal(field, 6), capacity_refusal(field, 8));

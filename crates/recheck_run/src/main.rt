@@ -1,12 +1,15 @@
 // Runs the library's reader over the stored fields on standard input, has each answer checked by the second checker (crate
 // recheck_answers), the library's other calls compared with it, its extremes with those of the sheet with signs turned, the sums
-// that its sheet holds with those of the working sheet and its answers with those to fields with other values at other stations, and
-// writes a summary.
+// that its sheet holds with those of the working sheet, its answers with those to fields with other values at other stations and its
+// reader of case names with the second program's, and writes a summary.
 use recheck_answers::check_answer;
 use recheck_answers::sheet_after;
 use recheck_bytes::UNWRITTEN;
 use recheck_bytes::filled_from;
 use recheck_bytes::same_at;
+use recheck_drawing::compare_names;
+use recheck_drawing::worked_files_agree;
+use recheck_files::compare_files;
 use recheck_methods::method_agrees;
 use recheck_methods::sheet_agrees;
 use recheck_pairs::has_extremes;
@@ -27,6 +30,7 @@ use recheck_tally::Tally;
 use recheck_tally::answers_buffer;
 use recheck_tally::input_buffer;
 use recheck_tally::summary;
+use recheck_tally::with_files_compared;
 use recheck_tally::with_list;
 use recheck_tally::with_lists_compared;
 use recheck_tally::with_reading;
@@ -264,6 +268,9 @@ fn first_run() -> Run
         unaffected: 0,
         elsewhere: 0,
         affected: 0,
+        cases: 0,
+        names: 0,
+        files: 0,
         differences: 0,
         first: 0,
     };
@@ -313,10 +320,22 @@ fn compare_lists(t: Tally, stored: [u8; ROOM], n: usize) -> Tally
     with_lists_compared(t, others.same, others.different, own.different, all)
 }
 
+// The stored input as a file: its names, and the sheets and answers without them; and the worked files.
+fn read_as_file(t: Tally, stored: &[u8]) -> Tally
+    requires { ⌜ length (now stored) ≤ 262144 ⌝ }
+{
+    let c = compare_names(stored);
+    let f = compare_files(stored);
+    let failed = wrapping_add_u64(c.failed, f.failed);
+    let all = wrapping_add_u64(failed, !worked_files_agree() as u64);
+    with_files_compared(t, c.cases, c.names, f.files, all)
+}
+
 // The stored input is smaller than the buffer.
 fn main() {
     let mut buffer = input_buffer();
     let n = io::read_full(0, &mut buffer);
     let t = run_both(&buffer[..n]);
-    summary(compare_lists(t, buffer, n));
+    let u = compare_lists(t, buffer, n);
+    summary(read_as_file(u, &buffer[..n]));
 }

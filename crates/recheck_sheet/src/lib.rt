@@ -1,4 +1,5 @@
-// The working sheet, and what becomes of it under tags 01 to 05, 08 and 09, once no refusal is due.
+// The working sheet, and what becomes of it under tags 01 to 05, 08 and 09, once no refusal is due. Every other tag leaves it, a case name
+// (tag 60) too.
 
 ghost use mathlib.Core.Path.{_≡_};
 ghost use Prim.Native.Nat.{_+_, _≤_};

@@ -6,8 +6,9 @@ use std::num::wrapping_add_u64;
 // Counts for the summary: readings, answered looks (tags 06 and 07) that were enumerated, those with too many load
 // cases for it, pairs of extremes compared with those of the sheet with signs turned, readings that left a sheet with a sum
 // other than 0, refusals due, refusals 14, looks that are the same with other values at the other stations, looks at those other
-// stations that differ then, looks that differ with other values at their own station, differences, and the number of the first
-// reading that differs (0: none).
+// stations that differ then, looks that differ with other values at their own station, how often the name of a case in a file was
+// compared, how often there was one, files compared with themselves without their names, differences, and the number of the
+// first reading that differs (0: none).
 pub struct Tally {
     pub readings: u64,
     pub looks: u64,
@@ -19,6 +20,9 @@ pub struct Tally {
     pub unaffected: u64,
     pub elsewhere: u64,
     pub affected: u64,
+    pub cases: u64,
+    pub names: u64,
+    pub files: u64,
     pub differences: u64,
     pub first: u64,
 }
@@ -73,7 +77,14 @@ pub fn with_list(t: Tally, listed: usize, n: usize) -> Tally {
     compared(u, n <= listed, t.readings)
 }
 
-// The tally after the comparisons of two lists (SCOPE 9.5), with their counts. A failure among them is told of at the last reading.
+// So many failures of a comparison of the whole input, told of at the last reading.
+fn with_failures(t: Tally, failed: u64) -> Tally {
+    let mut u = compared(t, failed == 0, t.readings);
+    u.differences = wrapping_add_u64(t.differences, failed);
+    u
+}
+
+// The tally after the comparisons of two lists (SCOPE 9.5), with their counts.
 pub fn with_lists_compared(
     t: Tally,
     unaffected: u64,
@@ -81,11 +92,19 @@ pub fn with_lists_compared(
     affected: u64,
     failed: u64,
 ) -> Tally {
-    let mut u = compared(t, failed == 0, t.readings);
+    let mut u = with_failures(t, failed);
     u.unaffected = unaffected;
     u.elsewhere = elsewhere;
     u.affected = affected;
-    u.differences = wrapping_add_u64(t.differences, failed);
+    u
+}
+
+// The tally after the comparisons on files (SCOPE 9.6 and 9.7), with their counts.
+pub fn with_files_compared(t: Tally, cases: u64, names: u64, files: u64, failed: u64) -> Tally {
+    let mut u = with_failures(t, failed);
+    u.cases = cases;
+    u.names = names;
+    u.files = files;
     u
 }
 
@@ -116,6 +135,9 @@ pub fn summary(t: Tally) {
         t.affected,
         b" looks different with other values at their own station, ",
     );
+    put_count(t.cases, b" cases looked up in files, ");
+    put_count(t.names, b" names found, ");
+    put_count(t.files, b" files the same without their names, ");
     put_count(t.differences, b" differences\n");
 }
 

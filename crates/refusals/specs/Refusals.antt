@@ -84,6 +84,10 @@ switchRefusals byte = on (switchOutside byte) 4 ∷ []
 abbrev pub strainingRefusals : (method factor : ℕ) → List Refusal
 strainingRefusals method factor = on (strainingOutside method factor) 15 ∷ []
 
+-- tag 60: case
+abbrev pub nameRefusals : (case : ℕ) → List Refusal
+nameRefusals case = on (caseOutside case) 5 ∷ []
+
 -- the first of each
 unfoldable pub dueSettings : (method live zone : ℕ) → ℕ
 dueSettings method live zone = firstDue (settingsRefusals method live zone)
@@ -111,3 +115,6 @@ dueSwitch byte = firstDue (switchRefusals byte)
 
 unfoldable pub dueStraining : (method factor : ℕ) → ℕ
 dueStraining method factor = firstDue (strainingRefusals method factor)
+
+unfoldable pub dueName : (case : ℕ) → ℕ
+dueName case = firstDue (nameRefusals case)

@@ -2,10 +2,10 @@
 ghost use mathlib.Core.Path.{_≡_};
 ghost use mathlib.Core.Bool.{cond};
 ghost use Rattle.standard.specs.Range.{methodOutside, outside, strainingOutside};
-ghost use Rattle.refusals.specs.Refusals.{effectOutside, capacityOutside, kindOutside, dueSettings, dueFillAt, dueEffectsAt, dueEmptyAt, dueCapacities, dueExtremes, dueSwitch, dueStraining, dueUtilisationAt};
+ghost use Rattle.refusals.specs.Refusals.{effectOutside, capacityOutside, kindOutside, dueSettings, dueFillAt, dueEffectsAt, dueEmptyAt, dueCapacities, dueExtremes, dueSwitch, dueStraining, dueUtilisationAt, dueName};
 use standard::Class;
 
-const LAST_CASE: u8 = 31;
+pub const LAST_CASE: u8 = 31;
 
 const LAST_STATION: u8 = 15;
 
@@ -143,4 +143,10 @@ pub fn due_straining(method: u8, factor: u16) -> u8
     ensures { λ r. ⌜ r ≡ dueStraining method factor ⌝ }
 {
     first(straining_outside(method, factor), 15, 0)
+}
+
+pub fn due_name(case: u8) -> u8
+    ensures { λ r. ⌜ r ≡ dueName case ⌝ }
+{
+    first(LAST_CASE < case, 5, 0)
 }

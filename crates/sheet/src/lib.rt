@@ -9,7 +9,7 @@ ghost use Rattle.wire.specs.Bytes.{signed16};
 ghost use Rattle.standard.specs.Combination.{caseCount};
 ghost use Rattle.standard.specs.Rows.{settingsOf};
 ghost use Rattle.envelope.specs.Range.{stationCount, componentCount};
-ghost use Rattle.refusals.specs.Refusals.{dueSettings, dueCapacities, dueExtremes, dueSwitch};
+ghost use Rattle.refusals.specs.Refusals.{dueSettings, dueCapacities, dueExtremes, dueSwitch, dueName};
 ghost use Rattle.sheet.specs.Sheet.{fresh, withKind, withEffects, withCapacities, withSettings, withSwitch, withStraining};
 ghost use Rattle.sheet.specs.Range.{InRange};
 ghost use Rattle.sheet.specs.Looks.{extremesAt, utilisationAt, unlessDue, edited, dueUtilisation, lookedExtremes, lookedUtilisation, ExtremesPromised, UtilisationPromised};
@@ -171,6 +171,16 @@ impl Sheet {
         let effects = self.effects;
         let sums = self.sums;
         let r = self.rest().set_straining(factor);
+        r.with_effects(effects, sums)
+    }
+
+    // Tag 60: a sheet holds no names.
+    pub fn name_case(self, case: u8) -> Answered
+        ensures { λ r. ⌜ r ≡ edited (unlessRefused (dueName case) self self) ⌝ }
+    {
+        let effects = self.effects;
+        let sums = self.sums;
+        let r = self.rest().name_case(case);
         r.with_effects(effects, sums)
     }
 
@@ -439,6 +449,23 @@ impl Rest {
         let settings = self.settings;
         let due = refusals::due_straining(settings.method, factor);
         self.replace_settings(due, settings.strained(factor))
+    }
+
+    // Tag 60: a sheet holds no names.
+    pub fn name_case(self, case: u8) -> AnsweredRest
+        ensures { λ r. ⌜ ((effects sums : List ℤ) → wholeOf r effects sums ≡ edited (unlessRefused (dueName case) (whole self effects sums) (whole self effects sums))) ⌝ }
+    {
+        let due = refusals::due_name(case);
+        if due == 0 {
+            return AnsweredRest {
+                answer: Answer::Accepted,
+                rest: self,
+            };
+        }
+        AnsweredRest {
+            answer: Answer::Refused(due),
+            rest: self,
+        }
     }
 
     // Tag 06.

@@ -4,15 +4,16 @@ use Prim.Native.Nat.{ℕ}
 use mathlib.Core.Path.{_≡_, refl, ap, _∙_, subst}
 use mathlib.Core.Bool.{Bool, true, false, cond}
 use mathlib.Core.List.{List, [], _∷_, map}
+use mathlib.Core.Logic.{⊎-elim}
 use lib.Dec.{eqb}
 use borrow.Author.Tests.{eqb-true}
 use Rattle.wire.specs.Bytes.{wordAt}
-use Rattle.refusals.proofs.Fits.{inside}
 use Rattle.sheet.specs.declared.Sheet.{Sheet}
 use Rattle.sheet.specs.Sheet.{freshSheet, fresh, withKind, withEffects, withCapacities, withSettings, withStraining}
 use Rattle.tags.specs.Tags.{tagAt, unknownTag}
-use Rattle.tags.proofs.Laws.{by-number}
-use Rattle.fields.specs.Field.{tagOf, bodyOf, due, readField}
+use Rattle.tags.proofs.Laws.{by-number, known}
+use Rattle.headers.specs.Headers.{tagOf, bodyOf, nameNumber}
+use Rattle.fields.specs.Field.{due, readField}
 use Rattle.demands.specs.Readings.{Given, sheetFrom, given, worksOut}
 use Rattle.demands.specs.Demands.{ExtremesAnswered, UtilisationAnswered}
 use Rattle.demands.proofs.Due.{none-own}
@@ -27,8 +28,9 @@ factorOn s = s .settings .straining
 by-tag : (s : Sheet) (b : List ℕ) (tag : ℕ) → unknownTag tag ≡ false → factorOn (tagAt tag .after s b) ≡ cond (eqb tag 1) 1000 (cond (eqb tag 9) (wordAt b 0) (factorOn s))
 unfolding fresh withKind withEffects withCapacities withSettings
 by-tag s b tag e =
-    let k = inside tag 9 e in
-    by-number (λ n. factorOn (tagAt n .after s b) ≡ cond (eqb n 1) 1000 (cond (eqb n 9) (wordAt b 0) (factorOn s))) refl refl refl refl refl refl refl refl refl tag (k .0) (k .1)
+    ⊎-elim (λ (n : tag ≡ nameNumber). rw n)
+    (λ k. by-number (λ n. factorOn (tagAt n .after s b) ≡ cond (eqb n 1) 1000 (cond (eqb n 9) (wordAt b 0) (factorOn s))) refl refl refl refl refl refl refl refl refl tag (k .0) (k .1))
+    (known tag e)
 
 after-reading : (s : Sheet) (g : Given) → factorOn (readField (g .input) (g .room) s .sheet) ≡ cond (acceptedOn s g) (factorBy (g .input) (factorOn s)) (factorOn s)
 unfolding readField

@@ -10,7 +10,8 @@ use Rattle.wire.specs.Bytes.{wordAt}
 use Rattle.envelope.specs.Range.{stationCount, componentCount}
 use Rattle.sheet.specs.declared.Sheet.{Sheet}
 use Rattle.sheet.specs.Sheet.{freshSheet, capacityAt, withStraining}
-use Rattle.fields.specs.Field.{tagOf, bodyOf, due, readField}
+use Rattle.headers.specs.Headers.{tagOf, bodyOf}
+use Rattle.fields.specs.Field.{due, readField}
 use Rattle.answers.specs.Answers.{answerRoom}
 use Rattle.demands.specs.Readings.{Given, Made, ReadOn, Readings, given, worksOut}
 use Rattle.demands.specs.Demands.{lookExtremes, lookUtilisation, ExtremesAnswered, UtilisationAnswered}

@@ -21,7 +21,8 @@ use Rattle.headers.specs.Headers.{readyOf}
 use Rattle.fields.specs.Readings.{FieldRead, wholeReading}
 use Rattle.lists.specs.Lists.{spanOf, sheetAfter, answersTo, bytesOf}
 use Rattle.lists.proofs.Joins.{sheet-join, answers-join, bytes-join, span-join}
-use Rattle.lists.proofs.Placed.{part-from, read-at}
+use Rattle.headers.proofs.Whole.{part-from}
+use Rattle.lists.proofs.Placed.{read-at}
 use Rattle.stream.specs.declared.Progress.{Progress}
 use Rattle.stream.specs.Answering.{isNext, goesOn, nextOf, anyLast, Progressed}
 

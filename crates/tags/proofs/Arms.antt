@@ -5,7 +5,8 @@ use mathlib.Core.Path.{_≡_, refl, sym, _∙_, ap}
 use mathlib.Core.List.{List}
 use Rattle.wire.specs.Bytes.{byteAt, wordAt, signed16}
 use Rattle.standard.specs.Rows.{settingsOf}
-use Rattle.refusals.specs.Refusals.{dueSettings, dueFillAt, dueEffectsAt, dueEmptyAt, dueCapacities, dueExtremes, dueSwitch, dueStraining}
+use Rattle.refusals.specs.Refusals.{dueSettings, dueFillAt, dueEffectsAt, dueEmptyAt, dueCapacities, dueExtremes, dueSwitch, dueStraining, dueName}
+use Rattle.headers.specs.Headers.{nameNumber}
 use Rattle.sheet.specs.declared.Sheet.{Sheet}
 use Rattle.sheet.specs.declared.Answered.{Answered}
 use Rattle.sheet.specs.declared.Answer.{Answer}
@@ -54,6 +55,10 @@ module _ (s : Sheet) (b : List ℕ) {b0 : ℕ} (e0 : b0 ≡ byteAt b 0) where
   pub switch-arm : {a : Answered} → a ≡ edited (unlessRefused (dueSwitch b0) s (withSwitch s b0)) → a ≡ runOf s 8 b
   unfolding runOf unlessRefused dueSwitch
   switch-arm h = h ∙ rw e0
+
+  pub name-arm : {a : Answered} → a ≡ edited (unlessRefused (dueName b0) s s) → a ≡ runOf s nameNumber b
+  unfolding runOf unlessRefused dueName
+  name-arm h = h ∙ rw e0
 
 pub straining-arm : (s : Sheet) (b : List ℕ) {w : ℕ} {a : Answered} → w ≡ wordAt b 0 → a ≡ edited (unlessRefused (dueFactor s w) s (withStraining s w)) → a ≡ runOf s 9 b
 unfolding runOf unlessRefused dueStraining

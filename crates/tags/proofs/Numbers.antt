@@ -47,4 +47,4 @@ pub tag-due-own : (s : Sheet) (b : List ℕ) (tag : ℕ) → Own (firstDue (tagA
 unfolding own
 tag-due-own s b tag =
     is-own (firstDue (tagAt tag .refusals s b))
-    (first-passes own (tagAt tag .refusals s b) tt (by-tags (λ t. T (allNumbers own (t .refusals s b))) tt tt tt tt tt tt tt tt tt tag))
+    (first-passes own (tagAt tag .refusals s b) tt (by-tags (λ t. T (allNumbers own (t .refusals s b))) tt tt tt tt tt tt tt tt tt tt tag))

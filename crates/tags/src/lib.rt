@@ -51,6 +51,7 @@ pub fn run(
             AnsweredRest { answer, rest }
         }
         8 => rest.switch_ice(b0),
+        0x60 => rest.name_case(b0),
         _ => rest.set_straining(wire::word(body, 0)),
     }
 }

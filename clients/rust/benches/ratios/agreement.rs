@@ -2,7 +2,7 @@
 
 use std::collections::BTreeSet;
 
-use frames::bytes::{answer, run, ANSWER, SAVED};
+use frames::bytes::{answer, name_place, run, ANSWER, SAVED};
 
 use crate::by_hand::{self, ran, Ran};
 use crate::lists::Random;
@@ -20,6 +20,7 @@ struct Compared {
     sheets: usize,
     fields: usize,
     looks: usize,
+    names: usize,
     refusals: BTreeSet<u8>,
 }
 
@@ -41,8 +42,9 @@ pub fn report() {
     assert_eq!(compared.refusals, (1..=15).collect(), "not every refusal");
     println!(
         "- Compared before the timing: {} fields, {} of them 06 and 07 answered, on {} sheets of every method, live option and zone, \
-         without ice and with it, with several straining factors and every refusal. The bytes are the same.",
-        compared.fields, compared.looks, compared.sheets
+         without ice and with it, with several straining factors and every refusal. The bytes are the same, and so are {} names that \
+         both find in these fields.",
+        compared.fields, compared.looks, compared.sheets, compared.names
     );
 }
 
@@ -74,6 +76,19 @@ impl Compared {
         damaged[at] = list.random.below(256) as u8;
         self.same(&damaged, &input[..64], 0, 0);
         self.same(&[&state[..], &input[..5]].concat(), input, 0, 0);
+        self.same_names(input);
+        let at = list.random.below(input.len() as u64) as usize;
+        self.same_names(&input[..at]);
+    }
+
+    /// Compares the name of each case in a file, and of one that there is not.
+    fn same_names(&mut self, file: &[u8]) {
+        for case in 0..=32 {
+            let place = name_place(file, case);
+            let by_hand = by_hand::name(file, case);
+            assert_eq!(place, by_hand, "FAILED: case {case} of {file:x?}");
+            self.names += usize::from(place.is_some());
+        }
     }
 
     /// Compares a list with saving and without, with room for the answers and for the saved sheet that is so many bytes too short.
@@ -197,7 +212,7 @@ impl List {
     fn fields(&mut self, count: usize) {
         for _ in 0..count {
             let (case, station) = (self.below(33), self.below(17));
-            match self.below(18) {
+            match self.below(19) {
                 0..2 => {
                     let kind = self.below(16);
                     self.push(2, &[case, kind]);
@@ -219,12 +234,22 @@ impl List {
                     let ice = self.below(3);
                     self.push(8, &[ice]);
                 }
+                17 => self.name(case),
                 _ => {
                     let settings = [(); 3].map(|_| self.below(6));
                     self.push(1, &settings);
                 }
             }
         }
+    }
+
+    /// Tag 60, with a name of 0 to 25 bytes; the shortest and the longest of these are refused.
+    fn name(&mut self, case: u8) {
+        let mut body = vec![case];
+        for _ in 0..self.below(26) {
+            body.push(self.below(256));
+        }
+        self.push(0x60, &body);
     }
 
     /// Any tag with any body.

@@ -7,6 +7,7 @@
 mod answers;
 mod cases;
 mod extremes;
+mod names;
 pub mod rows;
 mod sheet;
 mod utilisation;
@@ -15,6 +16,7 @@ use std::io::{self, Read, Write};
 
 use answers::put;
 use frames::bytes::{ANSWER, SAVED};
+pub use names::name;
 use sheet::{Asked, Refused};
 pub use sheet::{Sheet, SETTINGS};
 

@@ -4,12 +4,14 @@ use std::env;
 use std::hint::black_box;
 use std::process::{Command, Stdio};
 
-use frames::bytes::{answer, ANSWER};
+use frames::bytes::{answer, name_place, ANSWER};
+use frames::Field;
 
-use crate::bounds::{Counted, LISTS};
+use crate::bounds::{Counted, LISTS, NAME};
 use crate::by_hand;
 use crate::lists;
 use crate::measure::{head, row};
+use crate::names::CASE;
 
 /// The argument with which this program answers one list and ends.
 pub const COUNTED: &str = "--counted";
@@ -53,10 +55,13 @@ fn installed() -> bool {
 /// Prints the counts of a list, and says so where the library passes its bound.
 fn count(list: &Counted) -> Option<String> {
     let (proved, by_hand) = (difference("proved", list), difference("by-hand", list));
-    let name = format!(
-        "{}, method {}, {} places filled",
-        list.field, list.method, list.places
-    );
+    let name = match list.field {
+        NAME => "a field of a file in which a name is found".to_string(),
+        field => format!(
+            "{field}, method {}, {} places filled",
+            list.method, list.places
+        ),
+    };
     row(&[
         &name,
         &format!("{proved:.0}"),
@@ -93,7 +98,7 @@ fn under_valgrind(side: &str, list: &Counted, fields: usize) -> u64 {
     }
 }
 
-/// Answers one list. It is made in full, whatever part of it is answered, so that only the answering differs.
+/// Answers one list, or finds a name in it. It is made in full, whatever part of it is taken, so that only the answering differs.
 pub fn run(arguments: &[String]) {
     let [side, field, method, places, fields] = arguments else {
         panic!("{COUNTED} proved|by-hand FIELD METHOD PLACES FIELDS");
@@ -101,8 +106,12 @@ pub fn run(arguments: &[String]) {
     let number = |text: &String| text.parse::<usize>().expect("a number");
     let places = number(places) as u8;
     let state = lists::kinds_in_turn(number(method) as u8, places);
+    let list: Vec<Field> = match field.as_str() {
+        NAME => lists::designed().take(MANY).collect(),
+        field => lists::in_turn(field, places).take(MANY).collect(),
+    };
     let mut input = Vec::new();
-    let made = lists::in_turn(field, places).take(MANY).map(|field| {
+    let made = list.iter().map(|field| {
         field.encode(&mut input);
         input.len()
     });
@@ -111,6 +120,12 @@ pub fn run(arguments: &[String]) {
     let mut output = vec![0; ANSWER * MANY];
     let (state, input) = (black_box(state.save()), black_box(input));
     match side.as_str() {
+        "proved" if field == NAME => {
+            black_box(name_place(input, CASE));
+        }
+        "by-hand" if field == NAME => {
+            black_box(by_hand::name(input, CASE));
+        }
         "proved" => {
             answer(state, input, &mut output).expect("a saved sheet");
         }

@@ -1,7 +1,8 @@
 //! States and lists of fields to measure on, the same in every run.
 
 use frames::{
-    Capacities, Component, Effects, Field, Kind, LiveOption, Method, Settings, Sheet, Zone,
+    Capacities, CaseName, Component, Effects, Field, Kind, LiveOption, Method, Settings, Sheet,
+    Zone,
 };
 
 /// A generator of numbers (xorshift) from a fixed seed.
@@ -26,6 +27,12 @@ impl Random {
             my: one(),
             mz: one(),
         }
+    }
+
+    fn name(&mut self) -> CaseName {
+        let len = 1 + self.below(24) as usize;
+        let bytes = [0; 24].map(|_| b'a' + self.below(26) as u8);
+        CaseName::new(&bytes[..len]).expect("1 to 24 bytes")
     }
 
     fn capacities(&mut self) -> Capacities {
@@ -175,6 +182,54 @@ pub fn looks(count: usize, seed: u64) -> Vec<Field> {
         .collect()
 }
 
+/// Fields as a designer's list has them: mostly effects, some other edits, looks and names.
+pub fn designed() -> impl Iterator<Item = Field> {
+    let mut random = Random::new(51);
+    std::iter::repeat_with(move || {
+        let case = random.below(32) as u8;
+        let station = random.below(16) as u8;
+        match random.below(100) {
+            0..70 => Field::SetEffects {
+                case,
+                station,
+                effects: random.effects(),
+            },
+            70..75 => Field::AddCase {
+                case,
+                kind: kind_of(case),
+            },
+            75..80 => Field::DropCase { case },
+            80..84 => Field::SetCapacities {
+                station,
+                capacities: random.capacities(),
+            },
+            84..90 => Field::Extremes {
+                station,
+                component: COMPONENTS[random.below(3) as usize],
+            },
+            90..95 => Field::Utilisation { station },
+            _ => Field::NameCase {
+                case,
+                name: random.name(),
+            },
+        }
+    })
+}
+
+/// A file of such fields, as many as so many bytes hold.
+pub fn file(bytes: usize) -> Vec<u8> {
+    let mut file = Vec::with_capacity(bytes + 28);
+    for field in designed() {
+        let end = file.len();
+        field.encode(&mut file);
+        if file.len() > bytes {
+            file.truncate(end);
+            break;
+        }
+    }
+    file
+}
+
 pub fn is_look(field: Field) -> bool {
     matches!(field, Field::Extremes { .. } | Field::Utilisation { .. })
 }
@@ -195,17 +250,18 @@ pub fn mixed(count: usize, places: u8, seed: u64) -> Vec<Field> {
 /// Fields of every tag with values in and out of range, wrong lengths and unknown tags, so that every refusal occurs.
 pub fn with_refusals(count: usize, seed: u64) -> Vec<u8> {
     let mut random = Random::new(seed);
-    let lengths = [1, 3, 2, 8, 1, 7, 2, 1, 1, 2, 0];
+    let lengths = [1, 3, 2, 8, 1, 7, 2, 1, 1, 2, 0, 25];
     let mut bytes = Vec::new();
     for _ in 0..count {
-        let tag = random.below(11) as u8;
+        let at = random.below(12) as usize;
         let off = usize::from(random.below(20) == 0);
-        let len = lengths[usize::from(tag)] + off;
+        let len = lengths[at] + off;
+        let tag = if at == 11 { 0x60 } else { at as u8 };
         bytes.extend_from_slice(&[tag, 0, len as u8]);
         for at in 0..len {
             let byte = match (tag, at) {
                 (1, _) => random.below(4),
-                (3, 0) | (2 | 4, 0) => random.below(34),
+                (2..=4 | 0x60, 0) => random.below(34),
                 (3, 1) | (5..=7, 0) => random.below(17),
                 (2, 1) => random.below(16),
                 (6, 1) => random.below(4),
@@ -281,6 +337,10 @@ pub fn in_turn(tags: &str, places: u8) -> impl Iterator<Item = Field> + '_ {
                 component: COMPONENTS[i % 3],
             },
             ("07", _) => Field::Utilisation { station },
+            ("60", _) => Field::NameCase {
+                case,
+                name: CaseName::new(b"wind north").expect("1 to 24 bytes"),
+            },
             _ => panic!("no list of {tags}"),
         }
     })

@@ -13,7 +13,7 @@ pub fn report() {
         format!("Machine: {cpu}, {cores} cores, Linux {kernel}."),
         format!("By hand: {rustc}, opt-level 3, lto fat, one codegen unit, {features}."),
         "Proved: the whole module through LLVM at -O3, baseline x86-64.".to_string(),
-        "Buffers: the same in every round, so they are in cache.".to_string(),
+        "Buffers: the same in every round, so they are in cache, but for the file of 10 MB.".to_string(),
         "Clock: in one process, the time that the thread was on a processor; through a pipe, the time that passed."
             .to_string(),
         "Rounds: what is compared runs in turn, and a ratio is taken round by round. A figure is the median of the rounds; in \

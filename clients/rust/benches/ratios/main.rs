@@ -1,7 +1,7 @@
 //! The proved library and the service against code written by hand, in ratios. `cargo bench --bench ratios` prints Markdown.
 //!
-//! An argument runs one part: library, instructions, typed, enumerated, piped, aged or memory. The program fails where the two give
-//! different bytes, and where the library passes a bound on its instructions.
+//! An argument runs one part: library, instructions, typed, names, enumerated, piped, aged or memory. The program fails where the two
+//! give different bytes, and where the library passes a bound on its instructions.
 
 mod aged;
 mod agreement;
@@ -13,6 +13,7 @@ mod library;
 mod lists;
 mod machine;
 mod measure;
+mod names;
 mod piped;
 mod service;
 mod typed;
@@ -27,10 +28,11 @@ enum Part {
 
 use Part::{Report, Test};
 
-const PARTS: [(&str, Part); 7] = [
+const PARTS: [(&str, Part); 8] = [
     ("library", Report(library::report)),
     ("instructions", Test(instructions::report)),
     ("typed", Report(typed::report)),
+    ("names", Report(names::report)),
     ("enumerated", Report(enumerated::report)),
     ("piped", Report(piped::report)),
     ("aged", Report(aged::report)),

@@ -1,9 +1,10 @@
-//! Checks of the library's functions: answers, saved states, chains, refusals of a whole call.
+//! Checks of the library's functions: answers, saved states, chains, refusals of a whole call, names in a file.
 
-use frames::raw::{frames_answer, frames_count, frames_run, Ran};
+use frames::raw::{frames_answer, frames_count, frames_name, frames_run, Place, Ran};
 
 use crate::compare;
 use crate::lists::field;
+use crate::names::{self, LeftOut};
 use crate::offices::{self, Looks, Varied};
 use crate::pair;
 use crate::random::Random;
@@ -61,6 +62,11 @@ fn call_answer(state: &[u8], input: &[u8], output_length: usize) -> Called {
         )
     };
     called(ran, output, Vec::new())
+}
+
+fn call_name(file: &[u8], case: u8) -> Place {
+    // The pointer and length are those of a slice.
+    unsafe { frames_name(file.as_ptr(), file.len(), case) }
 }
 
 fn called(ran: Ran, output: Vec<u8>, saved_to: Vec<u8>) -> Called {
@@ -265,8 +271,97 @@ pub fn check_offices(list: &[u8], seed: u64) -> Result<[Looks; 2], String> {
     Ok([others, own])
 }
 
+/// How many cases of how many files had a name, and how many had none.
+#[derive(Clone, Copy, Default)]
+pub struct Names {
+    pub files: u64,
+    pub found: u64,
+    pub none: u64,
+}
+
+impl Names {
+    pub fn add(&mut self, more: Names) {
+        self.files += more.files;
+        self.found += more.found;
+        self.none += more.none;
+    }
+}
+
+/// Files with at most this many bytes are cut at each place, longer ones at some.
+const CUT_EVERYWHERE: usize = 120;
+
+/// The names in a file, and in the file cut at some places or at each.
+pub fn check_names(file: &[u8], seed: u64) -> Result<Names, String> {
+    let mut random = Random::new(seed);
+    let lengths: Vec<usize> = match file.len() {
+        length @ 0..=CUT_EVERYWHERE => (0..=length).collect(),
+        length => {
+            let cuts = [0; 3].map(|_| random.below(length as u64) as usize);
+            [&cuts[..], &[length]].concat()
+        }
+    };
+    let mut names = Names::default();
+    for length in lengths {
+        let found = names_found(&file[..length])
+            .map_err(|reason| format!("the first {length} bytes: {reason}"))?;
+        names.add(found);
+    }
+    Ok(names)
+}
+
+/// Compares `frames_name` with the reference, for every case that there is and every one that there is not.
+fn names_found(file: &[u8]) -> Result<Names, String> {
+    let mut found = 0;
+    for case in 0..=u8::MAX {
+        let Place { from, len } = call_name(file, case);
+        let place = reference::name(file, case);
+        let expected = place.unwrap_or_default();
+        require((from, len) == (expected.start, expected.len()), || {
+            let (start, length) = (expected.start, expected.len());
+            format!("the name of case {case}: {len} bytes from {from}, not {length} from {start}")
+        })?;
+        found += u64::from(len > 0);
+    }
+    Ok(Names {
+        files: 1,
+        found,
+        none: 256 - found,
+    })
+}
+
+/// A file and the same without its names, and without other fields of tag 60: from a fresh sheet, and from the one that the file makes.
+/// Returns how many fields were left out.
+pub fn check_without_names(file: &[u8]) -> Result<u64, String> {
+    let run = |state: &[u8], input: &[u8]| call_run(state, input, output_length(input), SAVED_ROOM);
+    let fresh = run(&[], file);
+    let made = fresh.saved_to[..fresh.saved].to_vec();
+    let again = run(&made, file);
+    let mut count = 0;
+    for left_out in LeftOut::ALL {
+        let without = names::without(file, left_out);
+        require_no_names(&without)?;
+        for (state, first) in [(&[][..], &fresh), (&made, &again)] {
+            let second = run(state, &without);
+            let [answers, others] = [first, &second].map(|called| &called.output[..called.written]);
+            count += names::check(file, answers, others, left_out)?;
+            let [sheet, same] = [first, &second].map(|called| &called.saved_to[..called.saved]);
+            require(sheet == same, || {
+                format!("another sheet without names, {}", shown(state))
+            })?;
+        }
+    }
+    Ok(count)
+}
+
+fn require_no_names(file: &[u8]) -> Check {
+    match (0..=u8::MAX).find(|case| call_name(file, *case).len > 0) {
+        Some(case) => Err(format!("a file without names has one for case {case}")),
+        None => Ok(()),
+    }
+}
+
 /// Tag 06 for each component and tag 07, at each station; without capacities tag 07 is refused.
-fn every_look() -> Vec<u8> {
+pub fn every_look() -> Vec<u8> {
     let at = |station: u8| {
         let extremes = [0, 1, 2].map(|component| field(6, &[station, component]));
         [extremes.concat(), field(7, &[station])].concat()
@@ -294,7 +389,10 @@ fn doubtful_state(list: &[u8], random: &mut Random) -> Vec<u8> {
         0 => state.extend(field(6, &[random.below(18) as u8, random.below(4) as u8])),
         1 => state.extend(field(7, &[random.below(18) as u8])),
         2 => state.truncate(random.below(state.len() as u64) as usize),
-        3 => state.extend(field(random.between(0, 10) as u8, &[40, 40][..])),
+        3 => {
+            let tag = random.pick(&[0, 1, 2, 3, 4, 5, 6, 7, 8, 9, 10, 0x60]);
+            state.extend(field(tag, &[40, 40][..]));
+        }
         4 => state.extend([random.below(10) as u8, 0xFF, 0xFF, 1]),
         _ if !fields.is_empty() => state.extend(random.pick(&fields)),
         _ => state.push(1),

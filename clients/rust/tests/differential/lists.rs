@@ -14,10 +14,11 @@ pub enum Sort {
     Damaged,
     Long,
     Short,
+    Names,
 }
 
 impl Sort {
-    pub const ALL: [(Sort, &'static str); 8] = [
+    pub const ALL: [(Sort, &'static str); 9] = [
         (Sort::Valid, "valid"),
         (Sort::Edge, "edge values"),
         (Sort::Full, "full 32 places"),
@@ -26,6 +27,7 @@ impl Sort {
         (Sort::Damaged, "damaged"),
         (Sort::Long, "long"),
         (Sort::Short, "short or empty"),
+        (Sort::Names, "names"),
     ];
 
     /// The sort follows from the index, so that a short run has lists of every sort.
@@ -33,14 +35,15 @@ impl Sort {
         if index % 61 == 17 {
             return Sort::Long;
         }
-        match index % 10 {
+        match index % 11 {
             0..=2 => Sort::Valid,
             3 => Sort::Edge,
             4 => Sort::Full,
             5 => Sort::Ties,
             6 => Sort::OneKind,
             7 | 8 => Sort::Damaged,
-            _ => Sort::Short,
+            9 => Sort::Short,
+            _ => Sort::Names,
         }
     }
 }
@@ -60,6 +63,10 @@ struct Style {
     edge: u64,
     /// Percentage of steps that edit a D or an F case and look at once. Such a step has several fields: some tenth of all.
     held: u64,
+    /// Percentage of steps that name a case, or have what looks like a name.
+    names: u64,
+    /// The cases that are named: few, so that a file has several names for one.
+    named: Vec<u8>,
 }
 
 enum Effects {
@@ -78,6 +85,20 @@ struct Builder<'a> {
 /// The list with this index, and its sort.
 pub fn list(random: &mut Random, index: u64) -> (Sort, Vec<u8>) {
     let sort = Sort::of(index);
+    (sort, list_of(random, sort))
+}
+
+/// A file for the drawing office: a list with names, or bytes in which much looks like a header.
+pub fn file(random: &mut Random) -> Vec<u8> {
+    const BYTES: [u8; 12] = [0, 0, 0, 1, 2, 3, 25, 26, 31, 0x60, 0x60, 0xEA];
+    if random.chance(70) {
+        return list_of(random, Sort::Names);
+    }
+    let length = random.below(300);
+    (0..length).map(|_| random.pick(&BYTES)).collect()
+}
+
+fn list_of(random: &mut Random, sort: Sort) -> Vec<u8> {
     let steps = match sort {
         Sort::Long => random.between(1_500, 4_000),
         Sort::Short => random.between(0, 4),
@@ -97,11 +118,11 @@ pub fn list(random: &mut Random, index: u64) -> (Sort, Vec<u8>) {
         builder.step();
     }
     let fields = builder.fields;
-    let bytes = match sort {
+    match sort {
         Sort::Damaged => damaged(random, fields),
+        Sort::Names if random.chance(60) => damaged(random, fields),
         _ => fields.concat(),
-    };
-    (sort, bytes)
+    }
 }
 
 fn style(random: &mut Random, sort: Sort) -> Style {
@@ -121,6 +142,8 @@ fn style(random: &mut Random, sort: Sort) -> Style {
         greatest_capacity: random.pick(&[3, 20, 500, 10_000]),
         edge: 2,
         held: 4,
+        names: 4,
+        named: named_cases(random),
     };
     // Several F cases, which act together, or several T cases, which act each by itself.
     match random.below(8) {
@@ -151,9 +174,19 @@ fn style(random: &mut Random, sort: Sort) -> Style {
             }
         }
         Sort::Short => style.places = random.below(4),
+        Sort::Names => {
+            style.names = 70;
+            style.places = random.below(6);
+        }
         Sort::Valid | Sort::Damaged | Sort::Long => {}
     }
     style
+}
+
+fn named_cases(random: &mut Random) -> Vec<u8> {
+    let count = random.between(1, 4);
+    let case = |_| random.below(PLACES as u64) as u8;
+    (0..count).map(case).collect()
 }
 
 fn few_kinds(random: &mut Random) -> Vec<u8> {
@@ -200,6 +233,9 @@ impl Builder<'_> {
         }
         if self.random.chance(self.style.held) {
             return self.held();
+        }
+        if self.random.chance(self.style.names) {
+            return self.name_field();
         }
         let station = self.station();
         match self.random.below(400) {
@@ -298,6 +334,59 @@ impl Builder<'_> {
         }
     }
 
+    /// A name of a case, or a field that the drawing office's reader (SCOPE 9.6) passes over.
+    fn name_field(&mut self) {
+        let case = self.random.pick(&self.style.named);
+        match self.random.below(20) {
+            0..=12 => {
+                let length = self.random.between(1, 24) as usize;
+                self.name(case, length);
+            }
+            13..=15 => self.edge_name(),
+            // What looks like names stands in the body of another tag.
+            16..=18 => {
+                let tag = unknown_tag(self.random);
+                let length = self.random.below(40) as usize;
+                let body = look_alikes(self.random, length);
+                self.push(tag, &body);
+            }
+            _ => {
+                let tag = self.random.between(1, 9) as u8;
+                let length = self.random.pick(&[2, 8, 26, 300]);
+                let body = look_alikes(self.random, length);
+                self.push(tag, &body);
+            }
+        }
+    }
+
+    /// A tag 60 whose length and case lie within, at or outside their limits.
+    fn edge_name(&mut self) {
+        let case = self.near(31, &[0, 30, 31, 32, 33, 0x60, 255]);
+        match self.random.below(10) {
+            0 => self.push(0x60, &[]),
+            // The low byte of the length is one that a tag 60 may have.
+            1 => {
+                let length = 256 + self.random.between(1, 24) as usize;
+                self.name(case, length);
+            }
+            _ => {
+                let length = self.random.pick(&[0, 1, 2, 23, 24, 25, 26]);
+                self.name(case, length);
+            }
+        }
+    }
+
+    /// A tag 60 with a name of so many bytes, some of which look like names themselves.
+    fn name(&mut self, case: u8, length: usize) {
+        let mut body = vec![case];
+        if self.random.chance(30) {
+            body.extend(look_alikes(self.random, length));
+        } else {
+            body.extend((0..length).map(|_| self.random.below(256) as u8));
+        }
+        self.push(0x60, &body);
+    }
+
     /// A field whose values lie within, at or outside their limits.
     fn edge_field(&mut self) {
         let case = self.near(31, &[0, 30, 31, 32, 255]);
@@ -307,7 +396,7 @@ impl Builder<'_> {
             self.near(15, &[0, 14, 15, 16, 255])
         };
         let kind = self.near(14, &[0, 1, 12, 13, 14, 15, 255]);
-        match self.random.below(18) {
+        match self.random.below(19) {
             0 => {
                 let method = self.near(2, &[0, 1, 2, 3, 255]);
                 let live_option = self.near(1, &[0, 1, 2, 255]);
@@ -333,6 +422,7 @@ impl Builder<'_> {
                 let factor = self.edge_straining();
                 self.push(9, &two_bytes(factor));
             }
+            17 => self.edge_name(),
             _ => {
                 let on = self.near(1, &[0, 1, 2, 255]);
                 self.push(8, &[on]);
@@ -484,18 +574,43 @@ pub fn field(tag: u8, body: &[u8]) -> Vec<u8> {
     field
 }
 
+/// Bytes that look like names one after the other, from any byte of the first on.
+fn look_alikes(random: &mut Random, length: usize) -> Vec<u8> {
+    let case = random.below(PLACES as u64) as u8;
+    let name = field(0x60, &[case, random.below(256) as u8]);
+    let skipped = random.below(name.len() as u64) as usize;
+    name.into_iter()
+        .cycle()
+        .skip(skipped)
+        .take(length)
+        .collect()
+}
+
+fn unknown_tag(random: &mut Random) -> u8 {
+    random.pick(&[
+        0x00, 0x0A, 0x0B, 0x5F, 0x61, 0x7F, 0x80, 0x81, 0x86, 0x87, 0xE0, 0xFF,
+    ])
+}
+
 /// A field that the list of tags does not allow, or the header of one that is too long.
 fn damaged_field(random: &mut Random) -> Vec<u8> {
-    let unknown = random.pick(&[0x00, 0x0A, 0x0B, 0x7F, 0x80, 0x81, 0x86, 0x87, 0xFF]);
-    let known = random.between(1, 9) as u8;
+    let unknown = unknown_tag(random);
+    let known = random.pick(&[1, 2, 3, 4, 5, 6, 7, 8, 9, 0x60, 0x60]);
     let length = random.below(13) as usize;
-    let body: Vec<u8> = (0..length).map(|_| random.below(40) as u8).collect();
+    let body: Vec<u8> = match random.below(4) {
+        0 => look_alikes(random, length),
+        _ => (0..length).map(|_| random.below(40) as u8).collect(),
+    };
     match random.below(100) {
         0..=44 => field(unknown, &body),
         45..=90 => field(known, &body),
         91..=94 => {
             let tag = random.pick(&[unknown, known]);
-            field(tag, &vec![random.below(256) as u8; LONGEST_BODY])
+            let body = match random.below(2) {
+                0 => look_alikes(random, LONGEST_BODY),
+                _ => vec![random.below(256) as u8; LONGEST_BODY],
+            };
+            field(tag, &body)
         }
         96 => field(
             known,

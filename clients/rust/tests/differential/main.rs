@@ -7,6 +7,7 @@ mod combination;
 mod compare;
 mod enumerate;
 mod lists;
+mod names;
 mod offices;
 mod pair;
 mod pipe;
@@ -29,6 +30,9 @@ use summary::{Before, Summary};
 
 const DEFAULT_FIELDS: u64 = 20_000;
 const DEFAULT_SEED: u64 = 1;
+
+/// How many more files are gone over for names with each random list.
+const FILES_OF_A_LIST: u64 = 4;
 
 /// Differences of one subject beyond this number are counted but not shrunk and printed.
 const MOST_REPORTS: usize = 2;
@@ -71,6 +75,10 @@ fn main() -> ExitCode {
         println!("no looks with other values at some stations");
         run.summary.differences += 1;
     }
+    if run.summary.lacks_names() {
+        println!("no names of some sort");
+        run.summary.differences += 1;
+    }
     run.summary.print(seed, started.elapsed());
     ExitCode::from(u8::from(run.summary.differences > 0))
 }
@@ -103,6 +111,7 @@ impl Run {
             worked::held(),
             worked::turned(),
             worked::offices(),
+            worked::names(),
             worked::refusals(),
             worked::lengths(),
         ];
@@ -114,6 +123,12 @@ impl Run {
             self.summary.examples += 1;
             self.check_list(&example.list, index);
             self.finish_process();
+        }
+        for file in worked::name_files() {
+            if let Err(reason) = file.check() {
+                println!("{reason}");
+                self.summary.differences += 1;
+            }
         }
         self.summary.examples += 1;
         self.check_list(&[], 0);
@@ -128,6 +143,10 @@ impl Run {
             let at = Sort::ALL.iter().position(|(listed, _)| *listed == sort);
             self.summary.lists[at.expect("every sort is listed")] += 1;
             self.check_list(&list, index);
+            for _ in 0..FILES_OF_A_LIST {
+                let file = lists::file(&mut random);
+                self.check_names(&file, random.next());
+            }
             index += 1;
         }
     }
@@ -187,10 +206,23 @@ impl Run {
             self.check_boundary("lengths of buffers", list, &check);
             self.summary.refusals[14] += refused.get();
         }
+        self.check_names(list, seed);
         self.check_pairs(list, index);
         if index % 2 == 1 {
             self.check_offices(list, seed);
         }
+    }
+
+    /// The list as a file: where its names stand, and the same without them.
+    fn check_names(&mut self, list: &[u8], seed: u64) {
+        let names = Cell::default();
+        let check = |list: &[u8]| boundary::check_names(list, seed).map(|found| names.set(found));
+        self.check_boundary("the names in a file", list, &check);
+        self.summary.names.add(names.get());
+        let left_out = Cell::new(0);
+        let check = |list: &[u8]| boundary::check_without_names(list).map(|n| left_out.set(n));
+        self.check_boundary("a file without its names", list, &check);
+        self.summary.left_out += left_out.get();
     }
 
     /// The list with other effects and capacities at other stations, and at one station alone.
@@ -250,6 +282,13 @@ impl Run {
         let check = |list: &[u8]| program.check_offices(list, seed).map(|n| looks.set(n));
         self.check_process("the program, other stations varied", &batch, seed, &check);
         self.summary.others_varied_of_program.add(looks.get());
+        let left_out = Cell::new(0);
+        let check = |list: &[u8]| {
+            let left = program.check_without_names(list, seed);
+            left.map(|n| left_out.set(n))
+        };
+        self.check_process("the program, without names", &batch, seed, &check);
+        self.summary.left_out_of_program += left_out.get();
     }
 
     fn check_process(

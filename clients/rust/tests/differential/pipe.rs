@@ -5,7 +5,9 @@ use std::path::PathBuf;
 use std::process::{Child, ChildStdin, Command, Stdio};
 use std::thread;
 
+use crate::boundary::every_look;
 use crate::compare;
+use crate::names::{self, LeftOut};
 use crate::offices::{self, Looks, Varied};
 use crate::pair;
 use crate::random::Random;
@@ -74,6 +76,16 @@ impl Program {
         let output = self.answers(&second, seed)?;
         compare::list(&mut Sheet::fresh(), &second, &output)?;
         offices::check(input, &self.answers(input, seed)?, &output, varied)
+    }
+
+    /// A file and the same without its names, or without every field of tag 60, each in a process of its own, with looks at every station at
+    /// its end. Returns how many fields were left out.
+    pub fn check_without_names(&self, input: &[u8], seed: u64) -> Result<u64, String> {
+        let left_out = LeftOut::ALL[(seed % 3) as usize];
+        let file = [input, &every_look()].concat();
+        let second = names::without(&file, left_out);
+        let [first, second] = [&file, &second].map(|input| self.answers(input, seed));
+        names::check(&file, &first?, &second?, left_out)
     }
 }
 

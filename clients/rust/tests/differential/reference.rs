@@ -1,4 +1,6 @@
-//! A plain implementation of docs/SCOPE.md, by the direct method: what every answer must be.
+//! A plain implementation of docs/SCOPE.md, by the direct method: what every answer must be, and where a name stands in a file.
+
+use std::ops::Range;
 
 use crate::combination::{
     self, low_factor, open_rows, Combination, Row, D, F, HP, HV, L, ONE_OF, T,
@@ -146,19 +148,20 @@ pub fn read(sheet: &mut Sheet, input: &[u8]) -> (Answer, usize) {
 
 /// The first refusal due on a field that is whole, in the order of SCOPE 7.2.
 fn refusal(sheet: &Sheet, tag: u8, body: &[u8]) -> Option<u8> {
-    let length = match tag {
-        0x01 => 3,
-        0x02 => 2,
-        0x03 => 8,
-        0x04 => 1,
-        0x05 => 7,
-        0x06 => 2,
-        0x07 => 1,
-        0x08 => 1,
-        0x09 => 2,
+    let lengths = match tag {
+        0x01 => 3..=3,
+        0x02 => 2..=2,
+        0x03 => 8..=8,
+        0x04 => 1..=1,
+        0x05 => 7..=7,
+        0x06 => 2..=2,
+        0x07 => 1..=1,
+        0x08 => 1..=1,
+        0x09 => 2..=2,
+        0x60 => 2..=25,
         _ => return Some(1),
     };
-    if body.len() != length {
+    if !lengths.contains(&body.len()) {
         return Some(2);
     }
     value_refusal(sheet, tag, body).or_else(|| sheet_refusal(sheet, tag, body))
@@ -184,6 +187,7 @@ fn value_refusal(sheet: &Sheet, tag: u8, body: &[u8]) -> Option<u8> {
         0x06 => station(0).or(due(body[1] > 2, 8)),
         0x07 => station(0),
         0x08 => due(body[0] > 1, 4),
+        0x60 => case(),
         _ => {
             let limits = match sheet.method {
                 1 => 1000..=2000,
@@ -229,6 +233,8 @@ fn perform(sheet: &mut Sheet, tag: u8, body: &[u8]) -> Answer {
         0x06 => return extremes(sheet, first, usize::from(body[1])),
         0x07 => return utilisation(sheet, first),
         0x08 => sheet.ice = body[0] == 1,
+        // A sheet holds no names (SCOPE 5.4).
+        0x60 => {}
         _ => sheet.straining = unsigned(body, 0),
     }
     Answer::Accepted
@@ -414,4 +420,27 @@ pub fn start(state: &[u8], input: &[u8], output: usize, saved: usize) -> Result<
         return Err(14);
     }
     load(state)
+}
+
+/// The case that a field names. A field that is cut or refused names none.
+pub fn named(field: &[u8]) -> Option<u8> {
+    match first_field(field)? {
+        [0x60, 0, 2..=25, case @ 0..=31, ..] => Some(*case),
+        _ => None,
+    }
+}
+
+// SCOPE 9.6
+/// Where the drawing office's reader finds the name of a case: after the header and the case, in the last field that names it.
+pub fn name(file: &[u8], case: u8) -> Option<Range<usize>> {
+    let mut found = None;
+    let mut at = 0;
+    while let Some(field) = first_field(&file[at..]) {
+        let end = at + field.len();
+        if named(field) == Some(case) {
+            found = Some(at + 4..end);
+        }
+        at = end;
+    }
+    found
 }

@@ -82,7 +82,7 @@ impl Shrinking<'_> {
         }
     }
 
-    /// Halves bodies that are longer than any of a known tag.
+    /// Halves bodies that are longer than any of tags 01 to 09.
     fn shorten_bodies(&mut self) {
         for at in 0..self.fields.len() {
             while self.fields[at].len() > 11 {
@@ -154,7 +154,7 @@ fn renumbered(fields: &Fields, is_place: bool, from: u8, to: u8) -> Fields {
     let mut fields = fields.clone();
     for field in &mut fields {
         let offset = match (field.first(), is_place) {
-            (Some(2..=4), true) | (Some(5..=7), false) => 3,
+            (Some(2..=4 | 0x60), true) | (Some(5..=7), false) => 3,
             (Some(3), false) => 4,
             _ => continue,
         };

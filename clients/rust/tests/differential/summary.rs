@@ -2,6 +2,7 @@
 
 use std::time::Duration;
 
+use crate::boundary::Names;
 use crate::combination::{D, F, T};
 use crate::lists::Sort;
 use crate::offices::Looks;
@@ -15,6 +16,8 @@ pub struct Summary {
     pub lists: [u64; Sort::ALL.len()],
     pub examples: u64,
     pub accepted: u64,
+    pub names_accepted: u64,
+    pub names_refused: u64,
     pub extremes: u64,
     pub utilisations: u64,
     pub with_ice: u64,
@@ -32,6 +35,9 @@ pub struct Summary {
     pub others_varied: Looks,
     pub own_varied: Looks,
     pub others_varied_of_program: Looks,
+    pub names: Names,
+    pub left_out: u64,
+    pub left_out_of_program: u64,
     pub differences: u64,
 }
 
@@ -76,7 +82,10 @@ impl Before {
 impl Summary {
     /// Counts an answer; `sheet` is the sheet after the field.
     pub fn count(&mut self, before: &mut Before, sheet: &Sheet, field: &[u8], answer: &Answer) {
+        let is_name = field[0] == 0x60;
         match (answer, before.edited) {
+            // A name is no edit: the one before it is still the last.
+            _ if is_name => {}
             (Answer::Accepted, _) => before.edited = before.edited(field),
             (Answer::Refused(_), _) | (_, Edited::Otherwise) => {}
             (_, Edited::Dropped) => self.after_drops += 1,
@@ -93,8 +102,12 @@ impl Summary {
             self.with_straining += u64::from(count(T) > 0 && sheet.straining != 1000);
         }
         match answer {
+            Answer::Accepted if is_name => self.names_accepted += 1,
             Answer::Accepted => self.accepted += 1,
-            Answer::Refused(number) => self.refusals[usize::from(*number)] += 1,
+            Answer::Refused(number) => {
+                self.refusals[usize::from(*number)] += 1;
+                self.names_refused += u64::from(is_name && *number != 3);
+            }
             Answer::Extremes { .. } => self.extremes += 1,
             Answer::Utilisation { .. } => self.utilisations += 1,
         }
@@ -118,6 +131,19 @@ impl Summary {
         sorts.into_iter().any(is_empty)
     }
 
+    /// Whether no name was accepted, refused, found or left out, or every case had one.
+    pub fn lacks_names(&self) -> bool {
+        let counts = [
+            self.names_accepted,
+            self.names_refused,
+            self.names.found,
+            self.names.none,
+            self.left_out,
+            self.left_out_of_program,
+        ];
+        counts.contains(&0)
+    }
+
     pub fn print(&self, seed: u64, time: Duration) {
         let line = |name: &str, value: u64| println!("{name:<36}{value:>12}");
         println!();
@@ -130,6 +156,8 @@ impl Summary {
             line(&format!("  {name}"), count);
         }
         line("edits accepted", self.accepted);
+        line("names accepted (60)", self.names_accepted);
+        line("names refused with 2 or 5", self.names_refused);
         line("extremes answered (06)", self.extremes);
         line("utilisations answered (07)", self.utilisations);
         line("  of both, with ice", self.with_ice);
@@ -154,6 +182,11 @@ impl Summary {
             line(&format!("{name}: looks the same"), looks.same);
             line("  at varied stations, differing", looks.differing);
         }
+        line("files gone over for names", self.names.files);
+        line("  cases with a name", self.names.found);
+        line("  cases without, also above 31", self.names.none);
+        line("tag 60 left out, library", self.left_out);
+        line("tag 60 left out, program", self.left_out_of_program);
         line("seed", seed);
         println!("{:<36}{:>12.1}", "seconds", time.as_secs_f64());
         println!("{} differences", self.differences);

@@ -1,11 +1,12 @@
 //! Fixed lists: the frames worked by hand, sheets with ice, with F, with T, with D and F cases dropped and set again, with every effect
-//! turned, and with other values at another station, the small inputs of the table of refusals, and fields at the limits of a length.
+//! turned, with other values at another station, and with names, the small inputs of the table of refusals, and fields at the limits of a
+//! length.
 
-use std::ops::RangeInclusive;
+use std::ops::{Range, RangeInclusive};
 
 use crate::combination::{D, DI, E, F, FA, HP, HV, L, LR, R, S, T, W, WI};
 use crate::lists::field;
-use crate::reference::{read_list, Answer, Sheet, LONGEST_BODY};
+use crate::reference::{self, read_list, Answer, Sheet, LONGEST_BODY};
 
 pub struct Example {
     pub name: &'static str,
@@ -365,6 +366,115 @@ pub fn offices() -> Vec<Example> {
     ]
 }
 
+/// The fields of the file of SCOPE 11.7, with the answer to each.
+#[rustfmt::skip]
+fn name_fields() -> [(Vec<u8>, &'static [u8]); 10] {
+    let accepted = &[0x80, 0, 0];
+    [
+        (field(1, &PLAIN), accepted),
+        (field(0x60, b"\x00DEAD"), accepted),
+        (field(2, &[0, D]), accepted),
+        (field(0x60, b"\x01L"), accepted),
+        (field(0x7F, &[0x60, 0]), &[0x81, 0, 1, 1]),
+        (field(0x60, &[1]), &[0x81, 0, 1, 2]),
+        (field(0x60, &[32, 0x41]), &[0x81, 0, 1, 5]),
+        (field(0x60, b"\x00ROOF1"), accepted),
+        (field(0x60, &[&[1][..], &[0x41; 25]].concat()), &[0x81, 0, 1, 2]),
+        (vec![0x60, 0, 2, 1], &[0x81, 0, 1, 3]),
+    ]
+}
+
+/// The file of SCOPE 11.7, which has 80 bytes.
+fn name_file() -> Vec<u8> {
+    name_fields().map(|(field, _)| field).concat()
+}
+
+/// A name of the greatest length, then a field that is too long, whether it is whole or not, with a name after it.
+fn too_long(body: usize) -> Vec<u8> {
+    let name = field(0x60, &[&[0][..], &[0x41; 24]].concat());
+    let long = [&[0x60, 0xEA, 0x61, 0][..], &vec![0x42; body]].concat();
+    [name, long, field(0x60, &[1, 0x42])].concat()
+}
+
+// SCOPE 11.7
+/// Each field of the file is the last of a list; then tag 60 at its limits.
+pub fn names() -> Vec<Example> {
+    let mut examples = Vec::new();
+    let mut list = Vec::new();
+    let mut then = |next: &[u8], answer: &[u8]| {
+        list.extend(next);
+        examples.push(Example {
+            name: "a file with names",
+            list: list.clone(),
+            expected: Bytes(answer.to_vec()),
+        });
+    };
+    for (next, answer) in name_fields() {
+        then(&next, answer);
+    }
+    then(&[0x58], &[0x80, 0, 0]);
+    for (case, length, answer) in [
+        (31, 24, &[0x80, 0, 0][..]),
+        (31, 25, &[0x81, 0, 1, 2]),
+        (255, 24, &[0x81, 0, 1, 5]),
+        (32, 25, &[0x81, 0, 1, 2]),
+        (32, 0, &[0x81, 0, 1, 2]),
+        (0, 257, &[0x81, 0, 1, 2]),
+    ] {
+        then(&field(0x60, &vec![case; 1 + length]), answer);
+    }
+    then(&field(0x60, &[]), &[0x81, 0, 1, 2]);
+    then(&too_long(LONGEST_BODY), &[0x81, 0, 1, 3]);
+    examples
+}
+
+/// A file, and where the names of cases 0 and 1 stand in it; no other case has one.
+pub struct NameFile {
+    name: &'static str,
+    file: Vec<u8>,
+    places: [Option<Range<usize>>; 2],
+}
+
+impl NameFile {
+    /// Compares the reference with the places of the document.
+    pub fn check(&self) -> Result<(), String> {
+        let places = [0, 1].map(|case| reference::name(&self.file, case));
+        let others = (2..=u8::MAX).any(|case| reference::name(&self.file, case).is_some());
+        if places == self.places && !others {
+            return Ok(());
+        }
+        Err(format!("{}: the reference finds {places:?}", self.name))
+    }
+}
+
+// SCOPE 11.7
+pub fn name_files() -> Vec<NameFile> {
+    let file = name_file();
+    let [whole, empty] = [[&file[..], b"X"].concat(), field(1, &PLAIN)];
+    let example = |name, file: Vec<u8>, zero, one| NameFile {
+        name,
+        file,
+        places: [zero, one],
+    };
+    vec![
+        example("the file", file.clone(), Some(42..47), Some(23..24)),
+        example("a byte more", whole, Some(42..47), Some(80..81)),
+        example(
+            "before ROOF1",
+            file[..46].into(),
+            Some(10..14),
+            Some(23..24),
+        ),
+        example("before L", file[..23].into(), Some(10..14), None),
+        example("before DEAD", file[..13].into(), None, None),
+        example("from its names on", file[1..].into(), None, None),
+        example("no names", empty, None, None),
+        example("no bytes", Vec::new(), None, None),
+        example("too long", too_long(LONGEST_BODY), Some(4..28), None),
+        example("too long and cut", too_long(0), Some(4..28), None),
+    ]
+}
+
 /// F opposes E on N and adds to it on My: without F the utilisation is 1 + 0.5, with it 0.91 + 0.572 in row 8.
 fn fluid_opposes() -> Example {
     let mut list = cases(PLAIN, &[(E, 0), (F, 0)]);
@@ -413,13 +523,15 @@ fn p2_answer() -> Vec<u8> {
 
 // SCOPE 7.1
 pub fn refusals() -> Vec<Example> {
-    let examples: [(u8, &[u8]); 18] = [
+    let examples: [(u8, &[u8]); 21] = [
         (3, &[1, 0, 3, 1]),
         (1, &[0x7F, 0, 0]),
         (2, &[4, 0, 2, 0, 0]),
+        (2, &[0x60, 0, 1, 0]),
         (4, &[1, 0, 3, 3, 0, 0]),
         (4, &[8, 0, 1, 2]),
         (5, &[4, 0, 1, 0x20]),
+        (5, &[0x60, 0, 2, 0x20, 0x41]),
         (6, &[7, 0, 1, 0x10]),
         (7, &[2, 0, 2, 0, 0x0F]),
         (8, &[6, 0, 2, 0, 3]),
@@ -432,6 +544,7 @@ pub fn refusals() -> Vec<Example> {
         (2, &[9, 0, 1, 0]),
         (2, &[9, 0, 3, 0, 0, 0]),
         (1, &[0x0A, 0, 2, 0, 0]),
+        (1, &[0x61, 0, 2, 0, 0]),
     ];
     let example = |(number, list): (u8, &[u8])| Example {
         name: "the small input of a refusal",

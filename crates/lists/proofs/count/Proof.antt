@@ -7,8 +7,8 @@ use native.Mathlib.Omega.{arith}
 use borrow.Author.Needs.{needs}
 use lib.ListN.{length, take, drop}
 use Rattle.headers.specs.Headers.{consumedBy}
+use Rattle.headers.proofs.Whole.{part-from}
 use Rattle.lists.proofs.Left.{left-next}
-use Rattle.lists.proofs.Placed.{part-from}
 use Rattle.lists.proofs.Counts.{Counted, counted-start, counted-next, counted-end}
 use Rattle.lists.proofs.count.Statement.{statement}
 use Rattle.lists.proofs.count.Tie as tie

@@ -2,7 +2,7 @@
 -- Assumes nothing.
 use mathlib.Core.Path.{_≡_}
 use Rattle.tags.proofs.Laws.{last-tag}
-use Rattle.tags.proofs.Arms.{restart-arm, fill-arm, effects-arm, empty-arm, capacities-arm, extremes-arm, utilisation-arm, switch-arm, straining-arm}
+use Rattle.tags.proofs.Arms.{restart-arm, fill-arm, effects-arm, empty-arm, capacities-arm, extremes-arm, utilisation-arm, switch-arm, name-arm, straining-arm}
 use borrow.Author.Needs.{needs}
 use Rattle.tags.proofs.run.Statement.{statement}
 use Rattle.tags.proofs.run.Tie as tie
@@ -49,17 +49,23 @@ returns-8 c =
 
 returns-9 : tie.Need-returns-9
 returns-9 c =
+    let m = c .before in
+    rw (m .match .keys9) (name-arm _ _ (m .before .before .byte .ensures) (c .name-case .ensures _ _))
+
+returns-10 : tie.Need-returns-10
+returns-10 c =
     let m = c .before .before in
     let s = m .before .before .before .before in
     let r = m .match .rest in
     let nine : s .args .tag ≡ 9 =
-    last-tag (s .args .tag) (s .pre .1) (r .0 .0 .0 .0 .0 .0 .0 .1) (r .0 .0 .0 .0 .0 .0 .1) (r .0 .0 .0 .0 .0 .1) (r .0 .0 .0 .0 .1) (r .0 .0 .0 .1) (r .0 .0 .1) (r .0 .1) (r .1) in
+    last-tag (s .args .tag) (s .pre .1) (r .0 .0 .0 .0 .0 .0 .0 .0 .1) (r .0 .0 .0 .0 .0 .0 .0 .1) (r .0 .0 .0 .0 .0 .0 .1) (r .0 .0 .0 .0 .0 .1) (r .0 .0 .0 .0 .1) (r .0 .0 .0 .1) (r .0 .0 .1) (r .0 .1) (r .1) in
     rw nine (straining-arm _ _ (c .before .word7 .ensures) (c .set-straining .ensures _ _))
 
 pub run-spec : {M : Type 1} → statement M
 run-spec =
     tie.close
     (tie.spec
+    (λ c κs. search needs)
     (λ c κs. search needs)
     (λ c κs. search needs)
     (λ c κs. search needs)
@@ -87,4 +93,5 @@ run-spec =
     returns-6
     returns-7
     returns-8
-    returns-9)
+    returns-9
+    returns-10)

@@ -91,7 +91,8 @@ impl Sheet {
             (7, &[station]) => return self.asked_utilisation(station),
             (8, &[ice]) => self.set_ice(ice)?,
             (9, &[high, low]) => self.set_straining(u16::from_be_bytes([high, low]))?,
-            (1..=9, _) => return Err(2),
+            (0x60, &[case, _, ..]) if body.len() <= 25 => named(case)?,
+            (1..=9 | 0x60, _) => return Err(2),
             _ => return Err(1),
         }
         Ok(Asked::Nothing)
@@ -229,6 +230,14 @@ impl Sheet {
             }
         }
         at
+    }
+}
+
+/// A name is for drawings: the sheet has no use for it.
+fn named(case: u8) -> Result<(), Refused> {
+    match case {
+        0..=31 => Ok(()),
+        _ => Err(5),
     }
 }
 

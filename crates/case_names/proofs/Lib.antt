@@ -1,0 +1,5 @@
+pub mod Written
+pub mod Keeping
+pub mod Progress
+pub mod Lining
+pub mod Reporting

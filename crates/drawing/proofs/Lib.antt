@@ -1,0 +1,5 @@
+pub mod Walk
+pub mod Ends
+pub mod Names
+pub mod Following
+pub mod Joins

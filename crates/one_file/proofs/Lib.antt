@@ -1,0 +1,4 @@
+pub mod Unchanged
+pub mod Bytes
+pub mod Gone
+pub mod OneFile
