@@ -1,3 +1,5 @@
+#![tactic(auto)]
+
 ghost use Rattle.std.specs.Prelude.{◌≡◌, ℕ, ◌+◌, ◌*◌, ◌<◌, ◌≤◌, ◌^◌, max, ℤ, pos, neg_ℤ, ◌+ℤ◌, ◌*ℤ◌, nat_abs};
 ghost use Rattle.integers.specs.Sums.{up, down};
 ghost use Rattle.integers.specs.Sets.{Lowest, WithoutLowest};
