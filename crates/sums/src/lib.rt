@@ -1,3 +1,5 @@
+#![tactic(auto)]
+
 ghost use Rattle.std.specs.Prelude.{◌≡◌, ◌<◌, ◌^◌, length, nat_abs};
 ghost use Rattle.integers.specs.Sets.{has};
 ghost use Rattle.standard.specs.Combination.{case_count};
