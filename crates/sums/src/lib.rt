@@ -21,7 +21,7 @@ pub const DEAD: usize = 1;
 pub const FLUID: usize = 2;
 
 // What the effects of the cases of a kind make above zero and, with its sign, below.
-#[derive(Drop)]
+#[derive(Clone, Copy)]
 pub struct Sides {
     pub above: i64,
     pub below: i64,
