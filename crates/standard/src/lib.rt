@@ -1,3 +1,5 @@
+#![tactic(auto)]
+
 ghost use Rattle.std.specs.Prelude.{◌≡◌};
 ghost use Rattle.standard.specs.Kinds.{class_of};
 ghost use Rattle.standard.specs.Rows.{settings_of, switched, strained, fresh_settings, low_of};
@@ -10,7 +12,7 @@ pub const ROWS: usize = 44;
 pub const CASES: usize = 32;
 
 // What a sheet sets for all its combinations. In this order it takes eight bytes, which are copied faster than six.
-#[derive(Drop)]
+#[derive(Clone, Copy)]
 pub struct Settings {
     pub method: u8,
     pub live: u8,
@@ -60,7 +62,7 @@ pub fn fresh_settings() -> Settings
 }
 
 // How the cases of a kind may act: all of them, all together or none, any subset, at most one of a group of kinds.
-#[derive(Drop)]
+#[derive(Clone, Copy)]
 pub enum Class {
     Always,
     Together,
@@ -70,13 +72,14 @@ pub enum Class {
 }
 
 // A station's capacities.
-#[derive(Drop)]
+#[derive(Clone, Copy)]
 pub struct Capacities {
     pub n: u16,
     pub y: u16,
     pub z: u16,
 }
 
+#[tactic(auto, unfolding(crate::specs::Kinds::class_of))]
 pub fn class_of(kind: usize) -> Class
     ensures { result ≡ class_of kind }
 {
@@ -93,6 +96,7 @@ pub fn class_of(kind: usize) -> Class
 }
 
 // The low factor of Hp.
+#[tactic(auto, unfolding(crate::specs::Rows::low_of))]
 pub fn low_factor(s: Settings) -> u16
     ensures { result ≡ low_of s }
 {
