@@ -4,11 +4,11 @@ use Prim.Native.Nat.{ℕ, zero, suc, ◌+◌, ◌*◌, ◌<◌, ◌≤◌, max}
 use native.Mathlib.Nat.{mul-le-mul_left, le_antisymm}
 use native.Mathlib.Omega.{arith}
 use native.Mathlib.Decide.{ℕ_discrete}
-use mathlib.Core.Path.{◌≡◌, refl, sym, ap, ◌∙◌, subst}
+use mathlib.Core.Path.{◌≡◌, refl, sym, ◌∙◌, subst}
 use mathlib.Core.Bool.{Bool, true, false, not, cond}
 use lib.Dec.{T, eqb, ltb, ltb→lt, nltb→le}
-use lib.IntN.{ℤ, pos, ◌+ℤ◌, ◌*ℤ◌}
-use borrow.Author.Tests.{eq-eqb, ne_eqb, lt-ltb, le-ltb}
+use lib.IntN.{ℤ, pos, ◌*ℤ◌}
+use borrow.Author.Tests.{eq-eqb, ne_eqb}
 use Rattle.integers.specs.Sums.{when, sum, sumℤ, most, most_at, up, down}
 use Rattle.integers.proofs.Signs.{add_parts, mul_up, mul_down}
 

@@ -3,19 +3,18 @@
 use Prim.Native.Nat.{ℕ, zero, suc, ◌+◌, ◌*◌, ◌-◌, ◌/◌, ◌%◌, ◌<◌, ◌≤◌, ◌^◌, min}
 use native.Mathlib.Nat as NatL
 use native.Mathlib.Decide.{dec_lt}
-use native.Mathlib.Numerals.{add-one}
 use native.Mathlib.Omega.{arith}
-use mathlib.Core.Bool.{Bool, true, false, ◌&&◌, false≢true}
-use mathlib.Core.Path.{◌≡◌, refl, sym, ap, ◌∙◌, subst}
-use borrow.Author.Tests.{eqb-true, eqb-false, le-leb, lt-leb}
+use mathlib.Core.Bool.{Bool, true, false, false≢true}
+use mathlib.Core.Path.{◌≡◌, refl, sym, ap, ◌∙◌}
+use borrow.Author.Tests.{eqb-true, le-leb, lt-leb}
 use lib.Bits.{bit_and, and_step, and_self}
 use lib.Count.{count_trailing_zeros, under}
-use lib.Dec.{eqb, leb}
-use lib.Pow.{pow_mono, shr_lt, shr-shr}
+use lib.Dec.{eqb}
+use lib.Pow.{pow_mono, shr-shr}
 use Rattle.integers.specs.Sums.{when, sum, mask_of}
 use Rattle.integers.specs.Sets.{has, Lowest, WithoutLowest, onwards}
 use Rattle.integers.proofs.Masks.{mask_below, bit_in_mask}
-use Rattle.integers.proofs.Sums.{sum_at_lem, sum_same}
+use Rattle.integers.proofs.Sums.{sum_at_lem}
 
 -- ---- the lowest member
 has_half : (n k : ℕ) → has n (suc k) ≡ has (n / 2) k

@@ -1,5 +1,5 @@
 -- Sums and maxima over the numbers below n, and the two parts of an integer.
-use Rattle.std.specs.Prelude.{ℕ, zero, suc, ◌+◌, ◌^◌, max, Bool, true, false, cond, ltb, ℤ, pos, negsuc, ◌+ℤ◌}
+use Rattle.std.specs.Prelude.{ℕ, zero, suc, ◌+◌, ◌^◌, max, Bool, cond, ltb, ℤ, pos, negsuc, ◌+ℤ◌}
 
 -- x where the test holds, else 0
 abbrev pub when : Bool → ℕ → ℕ

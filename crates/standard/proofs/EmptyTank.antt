@@ -2,7 +2,7 @@
 -- Assumes nothing.
 use Prim.Native.Nat.{ℕ}
 use native.Mathlib.Omega.{arith}
-use mathlib.Core.Bool.{Bool, not, ◌&&◌}
+use mathlib.Core.Bool.{Bool, not}
 use mathlib.Core.Path.{◌≡◌, sym, ap, ◌∙◌, subst}
 use lib.Dec.{T, eqb}
 use Rattle.integers.proofs.Sums.{eqb_cases}
@@ -10,7 +10,7 @@ use Rattle.integers.proofs.Tests.{and_left, and_right, and_both}
 use Rattle.standard.specs.declared.Settings.{Settings}
 use Rattle.standard.specs.declared.Class.TheVariants.{Always, Together}
 use Rattle.standard.specs.Kinds.{class_of, fluid, permanent_earth}
-use Rattle.standard.specs.Combination.{Combination, Admissible, emptied}
+use Rattle.standard.specs.Combination.{Combination, emptied}
 use Rattle.standard.specs.Governing.{EmptyTankConsidered}
 
 together_always : {A : Type 0} → Together ≡ Always → A

@@ -1,3 +1,5 @@
+#![tactic(auto)]
+
 ghost use Rattle.std.specs.Prelude.{◌≡◌};
 ghost use Rattle.standard.specs.Kinds.{class_of};
 ghost use Rattle.standard.specs.Rows.{settings_of, switched, strained, fresh_settings, low_of};
@@ -77,6 +79,7 @@ pub struct Capacities {
     pub z: u16,
 }
 
+#[tactic(auto, unfolding(crate::specs::Kinds::class_of))]
 pub fn class_of(kind: usize) -> Class
     ensures { result ≡ class_of kind }
 {
@@ -93,6 +96,7 @@ pub fn class_of(kind: usize) -> Class
 }
 
 // The low factor of Hp.
+#[tactic(auto, unfolding(crate::specs::Rows::low_of))]
 pub fn low_factor(s: Settings) -> u16
     ensures { result ≡ low_of s }
 {
