@@ -1,4 +1,7 @@
 // The effects of a sheet as they stand in memory, and the stores on them.
+
+#![tactic(auto)]
+
 ghost use Rattle.std.specs.Prelude.{◌≡◌, List, [], ◌∷◌, ◌+◌, ◌<◌, length};
 ghost use Rattle.std.proofs.lemmas.List.Edits.{sets};
 ghost use Rattle.effects.specs.Effects.{effect_count, zeros};

@@ -1,4 +1,7 @@
 // The refusals on the values of a body: each function gives the number of the first that is due, or 0.
+
+#![tactic(auto)]
+
 ghost use Rattle.std.specs.Prelude.{◌≡◌, cond};
 ghost use Rattle.standard.specs.Range.{method_outside, outside, straining_outside};
 ghost use Rattle.refusals.specs.Refusals.{effect_outside, capacity_outside, kind_outside, due_settings, due_fill_at, due_effects_at, due_empty_at, due_capacities, due_extremes, due_switch, due_straining, due_utilisation_at, due_name};
