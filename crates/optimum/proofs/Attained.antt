@@ -1,16 +1,15 @@
 -- Factors φ that take the greatest factor of each positive effect, the least of each negative one and the case that leads each
 -- group give exactly the bound.
 -- Assumes nothing.
-use Prim.Native.Nat.{ℕ, zero, suc, ◌+◌, ◌*◌, ◌<◌, ◌≤◌, max}
+use Prim.Native.Nat.{ℕ, zero, suc, ◌+◌, ◌*◌, ◌<◌, ◌≤◌}
 use native.Mathlib.Omega.{arith}
-use mathlib.Core.Path.{◌≡◌, refl, sym, ap, ◌∙◌, subst}
-use mathlib.Core.Bool.{Bool, true, false, cond, ◌&&◌}
+use mathlib.Core.Path.{◌≡◌, refl, sym, ap, ◌∙◌}
+use mathlib.Core.Bool.{Bool, true, false, ◌&&◌}
 use lib.Dec.{eqb, ltb}
 use borrow.Author.Tests.{lt-ltb}
-use Rattle.integers.specs.Sums.{when, sum, most, most_at}
+use Rattle.integers.specs.Sums.{when, sum, most}
 use Rattle.integers.proofs.Sums.{eqb_cases, ltb_cases, sum_same, sum_plus, sum_none, sum_only, sum_swap, most_ge, most_at_lem}
 use Rattle.optimum.specs.Factors.{worth, leads}
-use Rattle.optimum.proofs.Bound.{at_group}
 
 -- the case that leads a group is the only one that adds to it
 module _ (n : ℕ) (grp f u : ℕ → ℕ) (g : ℕ) where

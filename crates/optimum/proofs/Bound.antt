@@ -5,13 +5,10 @@
 use Prim.Native.Nat.{ℕ, zero, suc, ◌+◌, ◌*◌, ◌<◌, ◌≤◌, max}
 use native.Mathlib.Nat.{mul-le-mul_right}
 use native.Mathlib.Omega.{arith}
-use native.Mathlib.Decide.{ℕ_discrete}
-use mathlib.Core.Path.{◌≡◌, refl, sym, ap, ◌∙◌, subst}
-use mathlib.Core.Bool.{Bool, true, false}
-use lib.Dec.{eqb, ltb}
-use borrow.Author.Tests.{eq-eqb, ne_eqb}
+use mathlib.Core.Path.{◌≡◌, refl, sym, ◌∙◌, subst}
+use lib.Dec.{eqb}
 use Rattle.integers.specs.Sums.{when, sum, most}
-use Rattle.integers.proofs.Sums.{eqb_cases, ltb_cases, sum_same, sum_mono, sum_plus, sum_none, sum_only, sum_swap}
+use Rattle.integers.proofs.Sums.{eqb_cases, ltb_cases, sum_mono, sum_plus, sum_none, sum_only, sum_swap}
 use Rattle.optimum.specs.Factors.{worth}
 
 -- what a number adds to the groups, at its own

@@ -1,6 +1,6 @@
 -- No admissible combination passes the maximum of its row.
 -- Assumes nothing.
-use Prim.Native.Nat.{ℕ, zero, suc, ◌+◌, ◌*◌, ◌<◌, ◌≤◌, min}
+use Prim.Native.Nat.{ℕ, zero, suc, ◌<◌, ◌≤◌, min}
 use native.Mathlib.Omega.{arith}
 use mathlib.Core.Path.{◌≡◌, refl, sym, ap, ◌∙◌, subst}
 use mathlib.Core.Bool.{Bool, true, false, cond, ◌&&◌, false≢true}
@@ -10,9 +10,9 @@ use lib.ListN.{get_or-eq_default}
 use lib.IntN.{ℤ, pos, neg_ℤ, ◌*ℤ◌}
 use lib.Signed.{◌≤ℤ◌}
 use borrow.Author.Tests.{eq-eqb}
-use Rattle.integers.specs.Sums.{when, sum, sumℤ, up, down}
+use Rattle.integers.specs.Sums.{when, sumℤ, up, down}
 use Rattle.integers.proofs.Signs.{le_in, add_parts, neg_up, neg_down}
-use Rattle.integers.proofs.Sums.{eqb_cases, sum_parts}
+use Rattle.integers.proofs.Sums.{sum_parts}
 use Rattle.integers.proofs.Tests.{and_left, and_right}
 use Rattle.standard.specs.declared.Settings.{Settings}
 use Rattle.standard.specs.declared.Class.{Class}

@@ -1,12 +1,12 @@
 -- The best combination of an open row is admissible and reaches the row's maximum.
 -- Assumes nothing.
-use Prim.Native.Nat.{ℕ, zero, suc, ◌+◌, ◌*◌, ◌<◌, ◌≤◌, min}
+use Prim.Native.Nat.{ℕ, ◌<◌, ◌≤◌, min}
 use native.Mathlib.Omega.{arith}
 use mathlib.Core.Path.{◌≡◌, refl, sym, ap, ◌∙◌, subst}
 use mathlib.Core.Bool.{Bool, true, false, cond, ◌&&◌, false≢true}
 use lib.Dec.{T, eqb, ltb, eqb→eq, ltb→lt}
 use lib.IntN.{ℤ, pos, negsuc, neg_ℤ, ◌*ℤ◌}
-use borrow.Author.Tests.{eq-eqb, lt-ltb, le-ltb}
+use borrow.Author.Tests.{lt-ltb, le-ltb}
 use Rattle.integers.specs.Sums.{when, sumℤ, up, down}
 use Rattle.integers.proofs.Tests.{and_left, and_right}
 use Rattle.integers.proofs.Signs.{eq_in, add_parts, neg_up, neg_down}
@@ -16,7 +16,7 @@ use Rattle.standard.specs.declared.Class.{Class}
 use Rattle.standard.specs.declared.Class.TheVariants.{Always, Together, Subset, OneOf, Unknown}
 use Rattle.standard.specs.Kinds.{class_of, kind_count, group_count, permanent_earth}
 use Rattle.standard.specs.Rows.{factor_of, low_of, is_open_row}
-use Rattle.standard.specs.Combination.{Combination, Admissible, taken, factored_effect, case_count}
+use Rattle.standard.specs.Combination.{taken, factored_effect, case_count}
 use Rattle.standard.specs.Governing.{Reaches}
 use Rattle.standard.proofs.Facts.{group_below}
 use Rattle.optimum.specs.Row.{least_by, greatest_by, group_by, is_together, lower_of, least_of, greatest_of, group_of, leader_of, joint_of, total_of, gain_of, loss_of, row_maximum, acts_by, acts_in, low_in, best_combination}
