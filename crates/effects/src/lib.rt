@@ -29,6 +29,7 @@ pub fn put_effects(effects: &mut Effects, at: usize, n: i16, y: i16, z: i16)
 }
 
 // Sets all effects to 0.
+#[tactic(auto, unfolding(crate::specs::Effects::zeros))]
 pub fn clear_all(effects: &mut Effects)
     ensures { effects.new ≡ zeros effect_count }
 {
