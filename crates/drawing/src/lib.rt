@@ -11,7 +11,7 @@ use refusals::LAST_CASE;
 
 // Where a name stands in a file: its first byte, and how many it has. No name has none.
 #[repr(C)]
-#[derive(Drop)]
+#[derive(Clone, Copy)]
 pub struct NamePlace {
     pub from: usize,
     pub len: usize,

@@ -13,7 +13,7 @@ const LAST_TAG: u8 = 9;
 pub const NAME_TAG: u8 = 0x60;
 
 // A whole field at the front of the input, or one that goes past its end.
-#[derive(Drop)]
+#[derive(Clone, Copy)]
 pub enum Header {
     Field { tag: u8, len: usize },
     Short,
