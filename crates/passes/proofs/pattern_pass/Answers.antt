@@ -7,25 +7,23 @@ use Rattle.envelope.proofs.Patterns.{pattern_in_range}
 use Rattle.sums.proofs.Gathered.{places_in_range}
 use Rattle.directions.specs.Four.{directed, FourOf}
 use Rattle.passes.proofs.Served.{patterns_served}
-use borrow.Author.Rules.{rules}
 use Rattle.passes.proofs.pattern_pass.Goals as goal
 
 pub four_sums_of-requires : goal.four_sums_of-requires
-four_sums_of-requires c =
-    (
-      c.requires.0,
-      c.requires.1,
-      c.requires.2,
-      c.requires.3,
-      c.requires.4,
-      places_in_range c.args.places.now c.requires.5.kind c.requires.5.are,
-      c.requires.6,
-      subst WeightsInRange (sym c.pattern_weights-w.ensures) (pattern_in_range c.args.p _ c.requires.7),
-    )
+four_sums_of-requires c = (
+  c.requires.0,
+  c.requires.1,
+  c.requires.2,
+  c.requires.3,
+  c.requires.4,
+  places_in_range c.args.places.now c.requires.5.kind c.requires.5.are,
+  c.requires.6,
+  subst WeightsInRange (sym c.pattern_weights-w.ensures) (pattern_in_range c.args.p _ c.requires.7),
+)
 
 pub returns : goal.returns
 returns c =
     let l = c.four_sums_of.new in
-    patterns_served l.0 l.1.0 l.1.1.0 l.1.1.1.0 c.args.totals.now c.args.places.now c.args.effects.now c.args.p c.requires.6 c.requires.7
-    (subst (λ (v : Weights). FourOf l.0 l.1.0 l.1.1.0 l.1.1.1.0 (directed v (effect_of c.args.totals.now)) c.args.places.now (directed v (effect_of c.args.effects.now)) kind_count)
+    patterns_served l.s0 l.s1 l.s2 l.s3 c.args.totals.now c.args.places.now c.args.effects.now c.args.p c.requires.6 c.requires.7
+    (subst (λ (v : Weights). FourOf l.s0 l.s1 l.s2 l.s3 (directed v (effect_of c.args.totals.now)) c.args.places.now (directed v (effect_of c.args.effects.now)) kind_count)
     c.pattern_weights-w.ensures c.four_sums_of.ensures)

@@ -1,20 +1,17 @@
 -- Each weight is the product of the two other capacities, which fits, with the sign of its bit.
-use borrow.Author.Rules.{rules}
-use Prim.Native.Nat.{ℕ, ◌*◌, ◌%◌, ◌<◌, ◌^◌}
+use Prim.Native.Nat.{ℕ, ◌*◌, ◌%◌}
 use native.Mathlib.Nat.{div-one}
-use native.Mathlib.Omega.{arith}
 use mathlib.Core.Path.{sym, ap, ◌∙◌}
 use lib.Dec.{eqb}
 use Rattle.integers.proofs.Machine.{read}
 use Rattle.envelope.specs.Envelope.{signed_by, pattern_of}
-use Rattle.passes.proofs.Products.{Held, product_fits}
 use Rattle.passes.proofs.pattern_weights.Goals as goal
 
 pub returns : goal.returns
 unfolding pattern_of
 returns c =
     let a = c.args in
-    let n = read c.Signed-by.result c.Signed-by.type_inv ∙ c.Signed-by.ensures
+    let n = read c.signed_by.result c.signed_by.type_inv ∙ c.signed_by.ensures
     ∙ sym (ap (λ (x : ℕ). signed_by (eqb (x % 2) 1) (a.p.y * a.p.z)) (div-one a.pattern)) in
     let y = read c.signed_by-2.result c.signed_by-2.type_inv ∙ c.signed_by-2.ensures in
     let z = read c.signed_by-3.result c.signed_by-3.type_inv ∙ c.signed_by-3.ensures in
