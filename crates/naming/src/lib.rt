@@ -108,9 +108,9 @@ fn marked_at(set: u64, effects: &[i16], component: usize, minus: bool) -> Marked
 }
 
 // The weighed effect of case k.
-fn weighed_case(effects: &[i16], k: usize, w: &Weights) -> i64
-    requires { (k < case_count) × EffectsInRange effects.now × WeightsInRange w.now }
-    ensures { result ≡ weighed w.now (effect_of effects.now) k }
+fn weighed_case(effects: &[i16], k: usize, w: Weights) -> i64
+    requires { (k < case_count) × EffectsInRange effects.now × WeightsInRange w }
+    ensures { result ≡ weighed w (effect_of effects.now) k }
 {
     let at = k * 3;
     let n = integers::widen(effects[at]);
@@ -122,9 +122,9 @@ fn weighed_case(effects: &[i16], k: usize, w: &Weights) -> i64
 }
 
 // The cases of a set by their weighed effects.
-fn marked_by(set: u64, effects: &[i16], w: &Weights) -> Marked
-    requires { (set < 2 ^ case_count) × EffectsInRange effects.now × WeightsInRange w.now }
-    ensures { result ≡ marked_in (has set) (weighed w.now (effect_of effects.now)) case_count }
+fn marked_by(set: u64, effects: &[i16], w: Weights) -> Marked
+    requires { (set < 2 ^ case_count) × EffectsInRange effects.now × WeightsInRange w }
+    ensures { result ≡ marked_in (has set) (weighed w (effect_of effects.now)) case_count }
 {
     let mut m = Marked {
         above: 0,
@@ -238,14 +238,14 @@ pub fn sets_by(row: usize, places: &[u64], effects: &[i16], w: Weights, fluid: b
     ensures { result ≡ named_of (chosen_of row places.now fluid) (weighed w (effect_of effects.now)) }
 {
     let c = chosen_in(row, places, fluid);
-    let earth = marked_by(c.earth, effects, &w);
-    let free = marked_by(c.free, effects, &w);
-    let roof = marked_by(c.roof, effects, &w);
-    let wind = marked_by(c.wind, effects, &w);
-    let quake = marked_by(c.quake, effects, &w);
-    let flood = marked_by(c.flood, effects, &w);
-    let ice = marked_by(c.ice, effects, &w);
-    let icewind = marked_by(c.icewind, effects, &w);
+    let earth = marked_by(c.earth, effects, w);
+    let free = marked_by(c.free, effects, w);
+    let roof = marked_by(c.roof, effects, w);
+    let wind = marked_by(c.wind, effects, w);
+    let quake = marked_by(c.quake, effects, w);
+    let flood = marked_by(c.flood, effects, w);
+    let ice = marked_by(c.ice, effects, w);
+    let icewind = marked_by(c.icewind, effects, w);
     named(
         c.always, earth, free, roof, wind, quake, flood, ice, icewind,
     )

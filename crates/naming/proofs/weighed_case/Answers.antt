@@ -29,7 +29,7 @@ pub scaled-xy-requires : goal.scaled-xy-requires
 scaled-xy-requires c =
     let e = c.args.effects.now in
     let k = c.args.k in
-    let w = c.args.w.now in
+    let w = c.args.w in
     let range = c.requires.1 in
     let weights = c.requires.2 in
     room_for (w.n *ℤ effect_of e k 0) w.y (effect_of e k 1) _ _ _
@@ -41,7 +41,7 @@ pub scaled-requires : goal.scaled-requires
 scaled-requires c =
     let e = c.args.effects.now in
     let k = c.args.k in
-    let w = c.args.w.now in
+    let w = c.args.w in
     let range = c.requires.1 in
     let weights = c.requires.2 in
     room_for (w.n *ℤ effect_of e k 0 +ℤ w.y *ℤ effect_of e k 1) w.z (effect_of e k 2) _ _ _
@@ -54,7 +54,7 @@ pub returns : goal.returns
 returns c =
     let e = c.args.effects.now in
     let k = c.args.k in
-    let w = c.args.w.now in
+    let w = c.args.w in
     let range = c.requires.1 in
     let weights = c.requires.2 in
     gave (w.n *ℤ effect_of e k 0 +ℤ w.y *ℤ effect_of e k 1) w.z (effect_of e k 2) _ _ _
