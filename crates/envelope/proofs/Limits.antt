@@ -5,10 +5,10 @@ use native.Mathlib.Nat.{mul-le-mul, le_trans}
 use native.Mathlib.Omega.{arith}
 use mathlib.Core.Bool.{Bool, true, false, cond}
 use mathlib.Core.List.{List}
-use mathlib.Core.Path.{◌≡◌, ap, sym, subst}
+use mathlib.Core.Path.{◌≡◌, ap}
 use lib.Dec.{eqb}
 use lib.IntN.{ℤ, pos, neg_ℤ, ◌+ℤ◌, ◌*ℤ◌, nat_abs}
-use Rattle.integers.specs.Sums.{when, sum, most, up, down}
+use Rattle.integers.specs.Sums.{when, most, up, down}
 use Rattle.integers.proofs.Signs.{abs_add, abs_mul, abs_negated, abs_parts}
 use Rattle.integers.proofs.Sums.{when_le, sum_plus, sum_most, most_le}
 use Rattle.standard.specs.declared.Settings.{Settings}
@@ -22,7 +22,6 @@ use Rattle.standard.proofs.Facts.{factor_le}
 use Rattle.optimum.specs.Row.{greatest_by, least_by, is_together, greatest_of, least_of, lower_of, group_of, joint_of, total_of, worth_of, gain_of, loss_of, row_maximum}
 use Rattle.optimum.proofs.RowBound.{past_apart}
 use Rattle.optimum.proofs.Together.{together_most}
-use Rattle.envelope.specs.declared.Best.{Best}
 use Rattle.envelope.specs.declared.Weights.{Weights}
 use Rattle.envelope.specs.Range.{effect_of, effect_most, EffectsInRange, WeightsInRange}
 use Rattle.envelope.specs.Envelope.{governing_of, weighed}

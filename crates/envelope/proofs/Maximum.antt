@@ -1,20 +1,19 @@
 -- The extremes are the extremes over all admissible combinations, and name combinations that reach them.
 -- Assumes nothing.
-use Prim.Native.Nat.{ℕ, zero, suc, ◌+◌, ◌*◌, ◌<◌, ◌≤◌}
+use Prim.Native.Nat.{ℕ, ◌≤◌}
 use native.Mathlib.Omega.{arith}
 use mathlib.Core.Path.{◌≡◌, refl, sym, ap, ◌∙◌, subst}
-use mathlib.Core.Bool.{Bool, true, false, cond, ◌&&◌}
-use lib.Dec.{T, eqb, ltb}
+use mathlib.Core.Bool.{false}
 use lib.IntN.{ℤ, pos, negsuc, neg_ℤ, ◌+ℤ◌, ◌*ℤ◌, neg_ℤ-neg_ℤ}
 use lib.Signed.{◌≤ℤ◌}
-use Rattle.integers.specs.Sums.{mask_of, sumℤ, up, down}
+use Rattle.integers.specs.Sums.{mask_of, sumℤ}
 use Rattle.integers.proofs.Signs.{le_in, le_out, ≤_trans, neg_up, neg_down}
 use Rattle.integers.proofs.Linear.{left_commutes, distributes, minus_one, sum_adds, sum_scales}
 use Rattle.integers.proofs.Masks.{bit_of_mask}
 use Rattle.standard.specs.declared.Settings.{Settings}
 use Rattle.standard.specs.Range.{SettingsInRange}
 use Rattle.standard.specs.Rows.{factor_of}
-use Rattle.standard.specs.Combination.{Combination, Admissible, taken, factored_effect, case_count, named}
+use Rattle.standard.specs.Combination.{Combination, taken, factored_effect, case_count, named}
 use Rattle.standard.specs.Governing.{Reaches, Maximum, Minimum}
 use Rattle.standard.specs.Kinds.{class_of}
 use Rattle.standard.proofs.Facts.{unknown_none}

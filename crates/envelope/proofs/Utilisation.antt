@@ -1,12 +1,12 @@
 -- The utilisation is the greatest over all admissible combinations, and names one that has it.
 -- Assumes nothing.
-use Prim.Native.Nat.{ℕ, zero, suc, ◌+◌, ◌*◌, ◌<◌, ◌≤◌}
+use Prim.Native.Nat.{ℕ, zero, suc, ◌+◌, ◌*◌, ◌≤◌}
 use native.Mathlib.Omega.{arith}
 use native.Mathlib.Nat.{le_trans}
 use native.Mathlib.Decide.{ℕ_discrete}
 use mathlib.Core.Path.{◌≡◌, refl, sym, ap, ◌∙◌, subst}
 use mathlib.Core.Bool.{Bool, true, false, not, cond}
-use lib.Dec.{T, leb, leb→le, le→leb}
+use lib.Dec.{T, leb→le, le→leb}
 use lib.IntN.{ℤ, pos, negsuc, neg_ℤ, ◌+ℤ◌, ◌*ℤ◌, nat_abs}
 use lib.Signed.{◌≤ℤ◌, ≤ℤ_refl, lt_z, lt_z_no}
 use Rattle.integers.specs.Sums.{when, up, down}
@@ -18,11 +18,9 @@ use Rattle.standard.specs.declared.Capacities.{Capacities}
 use Rattle.standard.specs.Combination.{Combination, Admissible, factored_effect, case_count, bit, named, numerator_of, denominator_of, utilisation_of}
 use Rattle.standard.specs.Governing.{Maximum, Utilisation}
 use Rattle.envelope.specs.declared.Best.{Best}
-use Rattle.envelope.specs.declared.Extreme.{Extreme}
 use Rattle.envelope.specs.declared.Peak.{Peak}
-use Rattle.envelope.specs.declared.Weights.{Weights}
 use Rattle.envelope.specs.declared.Utilised.{Utilised}
-use Rattle.envelope.specs.Envelope.{governing_of, extreme_in, extreme_of, weighed, signed_by, pattern_of, pattern_best, peak_of, utilised_of}
+use Rattle.envelope.specs.Envelope.{extreme_in, weighed, signed_by, pattern_of, pattern_best, peak_of, utilised_of}
 use Rattle.envelope.proofs.Maximum.{effect_weighed, named_by, extreme_maximum}
 
 -- ---- a magnitude is the greater of a number and its negation

@@ -1,7 +1,7 @@
 -- The extremes and the utilisation of a station, as they are computed: a function of the settings, the kinds, the station's
 -- effects and its capacities alone. It names one of the combinations that reach a number, and nothing here needs to be believed:
 -- the calls that cite it promise the standard's words too.
-use Rattle.std.specs.Prelude.{ℕ, zero, suc, ◌+◌, ◌*◌, ◌-◌, Bool, cond, List, [], ◌∷◌, leb, ℤ, pos, negsuc, neg_ℤ, ◌+ℤ◌, ◌*ℤ◌, nat_abs}
+use Rattle.std.specs.Prelude.{ℕ, zero, suc, ◌+◌, ◌*◌, ◌-◌, Bool, cond, List, [], ◌∷◌, leb, ℤ, pos, neg_ℤ, ◌+ℤ◌, ◌*ℤ◌, nat_abs}
 use Rattle.std.specs.Int.Signed.{lt_z}
 use Rattle.integers.specs.Sums.{mask_of}
 use Rattle.standard.specs.declared.Settings.{Settings}

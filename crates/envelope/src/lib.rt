@@ -1,3 +1,5 @@
+#![tactic(auto)]
+
 // The row that governs and its value.
 #[derive(Drop)]
 pub struct Best {
