@@ -12,7 +12,7 @@ pub const ROWS: usize = 44;
 pub const CASES: usize = 32;
 
 // What a sheet sets for all its combinations. In this order it takes eight bytes, which are copied faster than six.
-#[derive(Drop)]
+#[derive(Clone, Copy)]
 pub struct Settings {
     pub method: u8,
     pub live: u8,
@@ -62,7 +62,7 @@ pub fn fresh_settings() -> Settings
 }
 
 // How the cases of a kind may act: all of them, all together or none, any subset, at most one of a group of kinds.
-#[derive(Drop)]
+#[derive(Clone, Copy)]
 pub enum Class {
     Always,
     Together,
@@ -72,7 +72,7 @@ pub enum Class {
 }
 
 // A station's capacities.
-#[derive(Drop)]
+#[derive(Clone, Copy)]
 pub struct Capacities {
     pub n: u16,
     pub y: u16,

@@ -1,3 +1,5 @@
+#![tactic(auto)]
+
 ghost use Rattle.std.specs.Prelude.{◌≡◌, ◌<◌, ◌^◌, length, nat_abs};
 ghost use Rattle.integers.specs.Sets.{has};
 ghost use Rattle.standard.specs.Combination.{case_count};
@@ -19,7 +21,7 @@ pub const DEAD: usize = 1;
 pub const FLUID: usize = 2;
 
 // What the effects of the cases of a kind make above zero and, with its sign, below.
-#[derive(Drop)]
+#[derive(Clone, Copy)]
 pub struct Sides {
     pub above: i64,
     pub below: i64,

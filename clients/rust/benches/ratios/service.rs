@@ -17,11 +17,11 @@ pub struct Service {
     from: ChildStdout,
 }
 
-/// The program from FRAMES_PROGRAM, or from target/bin of the repository.
+/// The program from FRAMES_PROGRAM, or from crates/frames of the repository.
 fn program() -> PathBuf {
     match env::var_os("FRAMES_PROGRAM") {
         Some(path) => PathBuf::from(path),
-        None => PathBuf::from(env!("CARGO_MANIFEST_DIR")).join("../../target/bin/frames"),
+        None => PathBuf::from(env!("CARGO_MANIFEST_DIR")).join("../../crates/frames/out/frames"),
     }
 }
 
@@ -30,7 +30,7 @@ impl Service {
         let path = program();
         if !path.is_file() {
             eprintln!("{} is missing.", path.display());
-            eprintln!("Build it with `rt check frames` in the root of the repository,");
+            eprintln!("Build it with `rt run </dev/null` in crates/frames of the repository,");
             eprintln!("or set FRAMES_PROGRAM to its path.");
             exit(1);
         }

@@ -27,7 +27,7 @@ pub struct Program {
 impl Program {
     pub fn find() -> Result<Program, String> {
         let default = || {
-            [env!("CARGO_MANIFEST_DIR"), "../../target/bin/frames"]
+            [env!("CARGO_MANIFEST_DIR"), "../../crates/frames/out/frames"]
                 .iter()
                 .collect()
         };
