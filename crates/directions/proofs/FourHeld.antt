@@ -15,7 +15,6 @@ use Rattle.envelope.specs.Range.{effect_of, effect_limit, total_most, weight_mos
 use Rattle.envelope.specs.Directions.{turned, signs_by}
 use Rattle.directions.specs.declared.Directions.{Directions}
 use Rattle.sums.specs.declared.Sides.{Sides}
-use Rattle.directions.specs.declared.FourSides.{FourSides}
 use Rattle.directions.specs.Four.{directed, DirectionsInRange, DirectionsFit, four_split, four_in, four_with, FourInRange, FourRoom}
 use Rattle.sums.proofs.Held.{split_in_range, no_sides, sides_skip, sides_join, sides_in_range, sides_room}
 

@@ -1,3 +1,5 @@
+#![tactic(auto)]
+
 ghost use Rattle.std.specs.Prelude.{◌≡◌, ◌+◌, ◌<◌, ◌≤◌, ◌^◌, length, ◌*ℤ◌, nat_abs};
 ghost use Rattle.integers.specs.Sets.{has};
 ghost use Rattle.standard.specs.Combination.{case_count};
@@ -12,7 +14,7 @@ use standard::KINDS;
 use sums::Sides;
 
 // The effect of a case in four directions.
-#[derive(Drop)]
+#[derive(Clone, Copy)]
 pub struct Directions {
     pub first: i64,
     pub second: i64,
@@ -21,7 +23,7 @@ pub struct Directions {
 }
 
 // What a kind's cases make in each.
-#[derive(Drop)]
+#[derive(Clone, Copy)]
 pub struct FourSides {
     pub first: Sides,
     pub second: Sides,

@@ -1,3 +1,5 @@
+#![tactic(auto)]
+
 // The constant table of rows: the factor of a kind in a row, and the kinds that have one.
 ghost use Rattle.std.specs.Prelude.{◌≡◌, false, ◌<◌};
 ghost use Rattle.standard.specs.Kinds.{kind_count};
@@ -70,6 +72,7 @@ const ROW_KINDS: [u16; ROWS] = [
 ];
 
 // The column of a kind; that of L is the one without the live option.
+#[tactic(auto, unfolding(standard::specs::Columns::column_of))]
 fn column(kind: usize) -> usize
     ensures { result ≡ column_of false kind }
 {

@@ -1,3 +1,5 @@
+#![tactic(auto)]
+
 ghost use Rattle.std.specs.Prelude.{◌≡◌, ℕ, ◌+◌, ◌*◌, ◌<◌, ◌≤◌, ◌^◌, min, ℤ, pos, neg_ℤ, ◌+ℤ◌, ◌*ℤ◌, nat_abs};
 ghost use Rattle.standard.specs.Kinds.{kind_count};
 ghost use Rattle.standard.specs.Range.{SettingsInRange};
@@ -12,7 +14,7 @@ use standard::Settings;
 
 // What the factors of a row multiply: the cases of D, of F where their total is above zero, of Hp and Hv, of Hp at the low
 // factor, of L, of T, then the greatest of Lr and R, of S, of W, of E, of Fa, of Di and of Wi.
-#[derive(Drop)]
+#[derive(Clone, Copy)]
 pub struct Terms {
     pub dead: i64,
     pub fluid: i64,
