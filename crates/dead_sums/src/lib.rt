@@ -1,4 +1,7 @@
 // The sums of the D and of the F effects that a sheet holds for each station and component, and the stores on effects that keep them true.
+
+#![tactic(auto)]
+
 ghost use Rattle.std.specs.Prelude.{◌≡◌, [], ◌∷◌, ◌+◌, ◌<◌, ◌≤◌, nat_abs};
 ghost use Rattle.std.proofs.lemmas.List.Edits.{sets};
 ghost use Rattle.standard.specs.Combination.{case_count};
@@ -101,6 +104,7 @@ pub fn clear_case(effects: &mut Effects, sums: &mut DeadSums, kinds: &[u8], case
 }
 
 // Sets all effects and all sums to 0.
+#[tactic(auto, unfolding(effects::specs::Effects::zeros))]
 pub fn clear_all(effects: &mut Effects, sums: &mut DeadSums)
     ensures { (effects.new ≡ zeros effect_count) × (sums.new ≡ zeros dead_sum_count) }
 {

@@ -1,4 +1,7 @@
 // The drawing office's reader: the name of a load case in the bytes of a file.
+
+#![tactic(auto)]
+
 ghost use Rattle.std.specs.Prelude.{◌≡◌, cond, ◌+◌, ◌≤◌, length, drop};
 ghost use Rattle.headers.specs.Headers.{tag_of, length_in};
 ghost use Rattle.drawing.specs.Names.{names_case, name_at, name_place, case_name, whole_end};
@@ -8,7 +11,7 @@ use refusals::LAST_CASE;
 
 // Where a name stands in a file: its first byte, and how many it has. No name has none.
 #[repr(C)]
-#[derive(Drop)]
+#[derive(Clone, Copy)]
 pub struct NamePlace {
     pub from: usize,
     pub len: usize,
@@ -36,6 +39,7 @@ fn found_at(file: &[u8], at: usize, tag: u8, len: usize, case: u8, found: NamePl
 }
 
 // Where the name of a case stands in a file.
+#[tactic(auto, unfolding(crate::specs::Names::name_place))]
 pub fn name_place(file: &[u8], case: u8) -> NamePlace
     ensures { result ≡ name_place file.now case }
 {

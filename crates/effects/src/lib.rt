@@ -1,4 +1,7 @@
 // The effects of a sheet as they stand in memory, and the stores on them.
+
+#![tactic(auto)]
+
 ghost use Rattle.std.specs.Prelude.{◌≡◌, List, [], ◌∷◌, ◌+◌, ◌<◌, length};
 ghost use Rattle.std.proofs.lemmas.List.Edits.{sets};
 ghost use Rattle.effects.specs.Effects.{effect_count, zeros};
@@ -26,6 +29,7 @@ pub fn put_effects(effects: &mut Effects, at: usize, n: i16, y: i16, z: i16)
 }
 
 // Sets all effects to 0.
+#[tactic(auto, unfolding(crate::specs::Effects::zeros))]
 pub fn clear_all(effects: &mut Effects)
     ensures { effects.new ≡ zeros effect_count }
 {

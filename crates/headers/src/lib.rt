@@ -1,4 +1,7 @@
 // The header of a field: what it says of tag and length, and how much a reading consumes.
+
+#![tactic(auto)]
+
 ghost use Rattle.std.specs.Prelude.{◌≡◌};
 ghost use Rattle.headers.specs.Headers.{header_of, length_of, name_length, due_header, consumed_by, ready_of};
 
@@ -10,12 +13,13 @@ const LAST_TAG: u8 = 9;
 pub const NAME_TAG: u8 = 0x60;
 
 // A whole field at the front of the input, or one that goes past its end.
-#[derive(Drop)]
+#[derive(Clone, Copy)]
 pub enum Header {
     Field { tag: u8, len: usize },
     Short,
 }
 
+#[tactic(auto, unfolding(crate::specs::Headers::header_of))]
 pub fn header_of(input: &[u8]) -> Header
     ensures { result ≡ header_of input.now }
 {
@@ -35,6 +39,7 @@ pub fn header_of(input: &[u8]) -> Header
 }
 
 // The length of a body by its tag.
+#[tactic(auto, unfolding(crate::specs::Headers::length_of))]
 fn right_length(tag: u8) -> usize
     ensures { result ≡ length_of tag }
 {
@@ -60,6 +65,7 @@ pub fn is_name_length(len: usize) -> bool
 }
 
 // The refusal that tag and length call for: 1, 2 or none.
+#[tactic(auto, unfolding(crate::specs::Headers::due_header))]
 pub fn due_header(tag: u8, len: usize) -> u8
     ensures { result ≡ due_header tag len }
 {
@@ -83,6 +89,7 @@ pub fn consumed_by(input: &[u8]) -> usize
 }
 
 // Whether what is at hand can be read now: a whole field, or a header that calls for 3 whatever follows.
+#[tactic(auto, unfolding(crate::specs::Headers::ready_of))]
 pub fn is_ready(input: &[u8]) -> bool
     ensures { result ≡ ready_of input.now }
 {

@@ -1,3 +1,5 @@
+#![tactic(auto)]
+
 ghost use Rattle.std.specs.Prelude.{◌≡◌, ◌+◌, ◌<◌, ◌≤◌, ◌^◌, nat_abs};
 ghost use Rattle.integers.specs.Sums.{when};
 ghost use Rattle.integers.specs.Sets.{has};

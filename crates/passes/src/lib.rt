@@ -1,3 +1,5 @@
+#![tactic(auto)]
+
 ghost use Rattle.std.specs.Prelude.{◌≡◌, ◌<◌, ◌^◌, length};
 ghost use Rattle.envelope.specs.Range.{effect_of, EffectsInRange, TotalsInRange, CapacitiesInRange};
 ghost use Rattle.envelope.specs.Envelope.{signed_by, pattern_of};

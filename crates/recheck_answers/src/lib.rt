@@ -1,6 +1,8 @@
 // A second checker, made apart from the library, by docs/SCOPE.md: it keeps a working sheet itself,
 // works out what each answer must be, and tries every admissible combination of a small sheet.
 
+#![tactic(auto)]
+
 ghost use Rattle.std.specs.Prelude.{◌<◌, length};
 
 use recheck_bytes::{byte_at, index_at, number_at, same_at};

@@ -1,5 +1,7 @@
 // Bytes of fields and answers, read with no error: past the end stands 0, and the callers look at lengths first.
 
+#![tactic(auto)]
+
 ghost use Rattle.std.specs.Prelude.{◌≡◌, ◌+◌, ◌<◌, ◌≤◌, length};
 ghost use Rattle.recheck_bytes.specs.Bytes.{byte_at, pair_at, number_at, same_up_to, filled_up_to};
 
@@ -39,6 +41,7 @@ pub fn pair_at(s: &[u8], at: usize) -> u16
 }
 
 // A number of `width` bytes, at most 8, the high one first.
+#[tactic(auto, unfolding(crate::specs::Bytes::number_at))]
 pub fn number_at(s: &[u8], at: usize, width: usize) -> u64
     requires { at + width < 60000 }
     ensures { result ≡ number_at s.now at width }
@@ -54,6 +57,7 @@ pub fn number_at(s: &[u8], at: usize, width: usize) -> u64
 }
 
 // Whether the bytes from a position on begin with these.
+#[tactic(auto, unfolding(crate::specs::Bytes::same_up_to))]
 pub fn same_at(s: &[u8], at: usize, front: &[u8]) -> bool
     requires at_bound { at < 1000000 }
     requires front_len_bound { length front.now < 1000000 }
@@ -69,6 +73,7 @@ pub fn same_at(s: &[u8], at: usize, front: &[u8]) -> bool
 }
 
 // Whether the bytes from a position to the end are all `byte`, which an output holds before a call.
+#[tactic(auto, unfolding(crate::specs::Bytes::filled_up_to))]
 pub fn filled_from(s: &[u8], from: usize, byte: u8) -> bool
     ensures { result ≡ filled_up_to byte s.now from (length s.now) }
 {

@@ -1,6 +1,8 @@
 // One combination: whether it is admissible, and the figure that it gives.
 // Sets of cases are numbers, case k being bit k. Signed figures are two's complement in 64 bits.
 
+#![tactic(auto)]
+
 ghost use Rattle.std.specs.Prelude.{◌≡◌, ◌*◌, ◌%◌, if◌then◌else◌, bit_or};
 ghost use Rattle.recheck_combinations.specs.Acting.{having, rules_of, within, all_or_none, at_most_one, may_act, may_be_low, Factors};
 
@@ -9,7 +11,7 @@ use std::num::{wrapping_add_u64, wrapping_sub_u64};
 
 // What a look asks for: a component's factored effect, or the numerator of the utilisation (component 3);
 // and the ends between which every admissible combination must give its figure.
-#[derive(Drop)]
+#[derive(Clone, Copy)]
 pub struct Look {
     pub component: u8,
     pub low_factor: u64,
@@ -21,7 +23,7 @@ pub struct Look {
 }
 
 // The cases with a factor in one row, by the rule that they are under.
-#[derive(Drop)]
+#[derive(Clone, Copy)]
 pub struct Rules {
     pub always: u64,
     pub fluid: u64,
@@ -72,6 +74,7 @@ fn having(kinds: &[u8; 32], factors: &[u64; 32], first: u8, last: u8) -> u64
     set
 }
 
+#[tactic(auto, unfolding(crate::specs::Acting::rules_of))]
 pub fn rules_of(kinds: &[u8; 32], factors: &[u64; 32]) -> Rules
     ensures { result ≡ rules_of kinds.now factors.now }
 {
@@ -114,6 +117,7 @@ fn all_or_none(set: u64, all: u64) -> bool
 }
 
 // Whether these cases may act together. The F cases act all or none: a tank may be empty.
+#[tactic(auto, unfolding(crate::specs::Acting::may_act))]
 pub fn may_act(r: Rules, acting: u64) -> bool
     ensures { result ≡ may_act r acting }
 {

@@ -1,12 +1,14 @@
 // Every admissible combination of a small sheet, one after the other: row by row, every set of acting cases among the
 // filled places, every set of cases at the low factor.
 
+#![tactic(auto)]
+
 use recheck_combinations::{Look, Rules, factors_in, figure, may_act, may_be_low, rules_of};
 use recheck_rows::open;
 use std::num::wrapping_add_usize;
 
 // What opens rows and gives their factors: the sheet's five settings.
-#[derive(Drop)]
+#[derive(Clone, Copy)]
 pub struct Options {
     pub method: u8,
     pub live: u8,

@@ -1,15 +1,7 @@
 -- The walk over the fields of a file: it stays within the file, and where it ends no later name is found.
--- Assumes nothing.
-use mathlib.Core.Path.{◌≡◌, sym, ap, ◌∙◌}
-use mathlib.Core.List.{List}
-use mathlib.Core.Bool.{Bool, true, false, cond, ◌&&◌, and-eq-true_iff}
-use Prim.Native.Nat.{ℕ, zero, suc, ◌+◌, ◌-◌, ◌≤◌, ◌<◌}
-use native.Mathlib.Nat.{add-zero, add-suc}
-use native.Mathlib.Numerals.{add-one}
-use native.Mathlib.Omega.{arith}
-use borrow.Author.Tests.{ltb-true}
-use lib.Dec.{eqb, ltb}
-use lib.ListN.{length}
+use Rattle.std.proofs.Common.{◌≡◌, sym, ap, ◌∙◌, List, Bool, true, false, cond, ◌&&◌, ℕ, zero, suc, ◌+◌, ◌-◌, ◌≤◌, ◌<◌, eqb, ltb, ltb-true, length, add-one, arith}
+use Rattle.std.proofs.Math.Bool.{and-eq-true_iff}
+use Rattle.std.proofs.Math.Nat.{add-zero, add-suc}
 use Rattle.recheck_bytes.specs.Bytes.{byte_at, pair_at}
 use Rattle.recheck_names.specs.declared.Name.{Name}
 use Rattle.recheck_names.specs.Names.{is_whole, after_field, field_place, is_name_length, is_tag60, names_case, name_at, last_name}

@@ -1,6 +1,8 @@
 // Case names in the bytes of a file: the drawing office's reader (SCOPE 9.6) and the file without its names (SCOPE 9.7). No sheet is
 // looked at.
 
+#![tactic(auto)]
+
 ghost use Rattle.std.specs.Prelude.{◌≡◌, cond, ◌+◌, ◌<◌, ◌≤◌, length, take};
 ghost use Rattle.recheck_names.specs.Names.{is_whole, after_field, is_name_length, is_tag60, names_case, name_at, no_name, last_name, name_of};
 ghost use Rattle.recheck_names.specs.Names.{is_left_out, kept_at, without_names};
@@ -11,13 +13,14 @@ use recheck_bytes::{byte_at, pair_at};
 pub const NAME_TAG: u8 = 0x60;
 
 // A name as a part of a file: its place and its length. Length 0 is none.
-#[derive(Drop)]
+#[derive(Clone, Copy)]
 pub struct Name {
     pub from: usize,
     pub len: usize,
 }
 
 // Whether a whole field begins here. Header and body lie within the file where the last byte does.
+#[tactic(auto, unfolding(crate::specs::Names::is_whole))]
 fn is_whole(file: &[u8], at: usize) -> bool
     requires at_in_bounds { at ≤ length file.now }
     requires file_len_bound { length file.now < 1000000 }
@@ -47,6 +50,7 @@ pub fn is_name_length(body: u16) -> bool
 }
 
 // Whether a whole tag 60 begins here.
+#[tactic(auto, unfolding(crate::specs::Names::is_tag60))]
 fn is_tag_60(file: &[u8], at: usize) -> bool
     requires at_in_bounds { at ≤ length file.now }
     requires file_len_bound { length file.now < 1000000 }
@@ -56,6 +60,7 @@ fn is_tag_60(file: &[u8], at: usize) -> bool
 }
 
 // Whether the field here names the case.
+#[tactic(auto, unfolding(crate::specs::Names::names_case))]
 fn names_case(file: &[u8], at: usize, case: u8) -> bool
     requires at_in_bounds { at ≤ length file.now }
     requires file_len_bound { length file.now < 1000000 }
@@ -117,6 +122,7 @@ pub fn name_of(file: &[u8], case: u8) -> Name
 }
 
 // Whether the field here is left out: a name, and where `refused` is set any whole tag 60.
+#[tactic(auto, unfolding(crate::specs::Names::is_left_out))]
 pub fn is_left_out(file: &[u8], refused: bool, at: usize) -> bool
     requires at_in_bounds { at ≤ length file.now }
     requires file_len_bound { length file.now < 1000000 }
@@ -131,8 +137,9 @@ fn put(out: &mut [u8], to: usize, part: &[u8]) -> usize
     requires { to + length part.now ≤ length out.old }
     ensures { Kept part.now out.old to result out.new }
 {
-    let n = bytes::copy(part, &mut out[to..]);
-    to + n
+    let end = to + part.len();
+    out[to..end].copy_from_slice(part);
+    end
 }
 
 // The field here, unless it is left out, put from a place on.

@@ -1,12 +1,6 @@
 -- Another effect or capacity is within the limits exactly where the given one is, and differs from it there.
--- Assumes nothing.
-use mathlib.Core.Path.{◌≡◌, refl}
-use mathlib.Core.Logic.{◌⊎◌, inl, inr, ⊎_elim}
-use mathlib.Core.Bool.{Bool, true, false}
-use Prim.Native.Nat.{ℕ, ◌<◌, ◌≤◌}
-use native.Mathlib.Omega.{arith}
-use lib.Dec.{ltb}
-use borrow.Author.Tests.{ltb-true, ltb-false, lt-ltb, le-ltb}
+use Rattle.std.proofs.Common.{◌≡◌, refl, ◌⊎◌, Bool, true, false, ℕ, ◌<◌, ◌≤◌, ltb, ltb-true, ltb-false, lt-ltb, le-ltb, arith}
+use Rattle.std.proofs.Math.Logic.{inl, inr, ⊎_elim}
 use Rattle.recheck_offices.specs.Offices.{other_effect, other_capacity}
 
 -- SCOPE 2.4, in 16 bits of two's complement

@@ -2,6 +2,8 @@
 // answers for the other stations. Here are the fields for such stations, the fields with other values, and the comparison of two answers.
 // The stations chosen are one station alone (`own`) or all others.
 
+#![tactic(auto)]
+
 ghost use Rattle.std.specs.Prelude.{◌≡◌, ◌+◌, ◌<◌, length};
 ghost use Rattle.recheck_offices.specs.Offices.{is_field, is_chosen, gives_effects, gives_capacities, looks_at};
 ghost use Rattle.recheck_offices.specs.Offices.{other_effect, other_capacity, other_value, with_pair, changed_pair, changed_three, changed, same_bytes, answers_agree};
@@ -22,6 +24,7 @@ fn is_chosen(station: u8, own: bool, s: u8) -> bool
 }
 
 // Whether the field gives a case its effects at a chosen station.
+#[tactic(auto, unfolding(crate::specs::Offices::gives_effects))]
 fn gives_effects(field: &[u8], station: u8, own: bool) -> bool
     ensures { result ≡ gives_effects field.now station own }
 {
@@ -29,6 +32,7 @@ fn gives_effects(field: &[u8], station: u8, own: bool) -> bool
 }
 
 // Whether the field gives a chosen station its capacities.
+#[tactic(auto, unfolding(crate::specs::Offices::gives_capacities))]
 fn gives_capacities(field: &[u8], station: u8, own: bool) -> bool
     ensures { result ≡ gives_capacities field.now station own }
 {
@@ -36,6 +40,7 @@ fn gives_capacities(field: &[u8], station: u8, own: bool) -> bool
 }
 
 // Whether the field is a look at a chosen station.
+#[tactic(auto, unfolding(crate::specs::Offices::looks_at))]
 pub fn looks_at(field: &[u8], station: u8, own: bool) -> bool
     ensures { result ≡ looks_at field.now station own }
 {
@@ -93,6 +98,7 @@ fn other(value: u16, effects: bool) -> u16
 }
 
 // The number in the two bytes at this position replaced by another.
+#[tactic(auto, unfolding(crate::specs::Offices::changed_pair))]
 fn change_pair(s: &mut [u8], at: usize, effects: bool)
     requires at_bound { at < 60000 }
     requires at_in_bounds { at + 1 < length s.old }
@@ -114,6 +120,7 @@ fn change_three(s: &mut [u8], at: usize, effects: bool)
 }
 
 // The field with other effects or capacities, where it gives those of a chosen station.
+#[tactic(auto, unfolding(crate::specs::Offices::changed, crate::specs::Offices::gives_effects, crate::specs::Offices::gives_capacities))]
 pub fn change(field: &mut [u8], station: u8, own: bool)
     ensures { field.new ≡ changed field.old station own }
 {

@@ -2,6 +2,8 @@
 // the reverse. Here are the sheet with its signs turned and the comparison of two answers, of their numbers alone: the combinations
 // named may differ among equals.
 
+#![tactic(auto)]
+
 ghost use Rattle.std.specs.Prelude.{◌≡◌, ◌<◌, map};
 ghost use Rattle.recheck_pairs.specs.Pair.{has_extremes, opposite, pair_agrees};
 ghost use Rattle.recheck_pairs.specs.Turned.{negated, turned};
@@ -30,6 +32,7 @@ fn all_negated(effects: [u16; 1536]) -> [u16; 1536]
 }
 
 // The sheet with the sign of every effect turned: all places, stations and components.
+#[tactic(auto, unfolding(crate::specs::Turned::turned))]
 pub fn turned(w: WorkingSheet) -> WorkingSheet
     ensures { result ≡ turned w }
 {

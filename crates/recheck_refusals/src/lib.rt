@@ -1,5 +1,7 @@
 // What a field is owed before it is carried out: the first refusal due, in the order of SCOPE 7.2. 0 is none.
 
+#![tactic(auto)]
+
 ghost use Rattle.std.specs.Prelude.{◌≤◌, ◌<◌};
 
 use recheck_bytes::{byte_at, index_at, pair_at};

@@ -1,6 +1,8 @@
 // The lines of the standard, kind by kind: which rows a sheet opens, and each kind's factor in a row, in thousandths. T alone has its
 // factor from the sheet.
 
+#![tactic(auto)]
+
 ghost use Rattle.std.specs.Prelude.{◌≡◌, ◌≤◌, max};
 ghost use Rattle.recheck_rows.specs.Rows.{between, strength_open, allowable_open, is_open, low_factor_of, self_straining};
 
@@ -10,6 +12,7 @@ fn between(n: u8, first: u8, last: u8) -> bool
     (first <= n) & (n <= last)
 }
 
+#[tactic(auto, unfolding(crate::specs::Rows::strength_open))]
 fn strength_open(row: u8, zone: u8, ice: u8) -> bool
     ensures { result ≡ strength_open row zone ice }
 {
@@ -19,6 +22,7 @@ fn strength_open(row: u8, zone: u8, ice: u8) -> bool
         | (between(row, 13, 15) & (ice == 1))
 }
 
+#[tactic(auto, unfolding(crate::specs::Rows::allowable_open))]
 fn allowable_open(row: u8, zone: u8, ice: u8) -> bool
     ensures { result ≡ allowable_open row zone ice }
 {

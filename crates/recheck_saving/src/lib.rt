@@ -2,6 +2,8 @@
 // for each filled place, rising, tag 02, then tag 03 for each station, rising, with an effect other than 0; then tag 05 for each station
 // that has capacities.
 
+#![tactic(auto)]
+
 ghost use Rattle.std.specs.Prelude.{◌≡◌, ◌+◌, ◌≤◌, ◌<◌, length};
 
 use recheck_sheet::WorkingSheet;

@@ -1,6 +1,8 @@
 // The working sheet, and what becomes of it under tags 01 to 05, 08 and 09, once no refusal is due. Every other tag leaves it, a case name
 // (tag 60) too.
 
+#![tactic(auto)]
+
 ghost use Rattle.std.specs.Prelude.{◌≡◌, ◌+◌, ◌≤◌};
 ghost use Rattle.recheck_bytes.specs.Bytes.{byte_at};
 ghost use Rattle.recheck_sheet.specs.Sheet.{blank_of, cleared, with_kind, with_effects, with_capacities, with_ice, with_straining, changed_by};
@@ -9,7 +11,7 @@ use recheck_bytes::{byte_at, index_at, pair_at};
 
 // The working sheet. Ice is 1 while the ice rows are open; straining is the factor of T. Kind 0 is an empty place; capacity 0 is none.
 // Effects are 16 bits of two's complement: case c, station s, component k at 48 c + 3 s + k. Capacities stand at 3 s + k.
-#[derive(Drop)]
+#[derive(Clone, Copy)]
 pub struct WorkingSheet {
     pub method: u8,
     pub live: u8,
@@ -27,6 +29,7 @@ pub fn fresh() -> WorkingSheet
     blank(1, 0, 0)
 }
 
+#[tactic(auto, unfolding(crate::specs::Sheet::blank_of))]
 fn blank(method: u8, live: u8, zone: u8) -> WorkingSheet
     ensures { result ≡ blank_of method live zone }
 {
@@ -57,6 +60,7 @@ fn cleared(effects: [u16; 1536], at: usize) -> [u16; 1536]
 }
 
 // The sheet with the place's kind set and its effects at every station 0: so for filling and for emptying alike.
+#[tactic(auto, unfolding(crate::specs::Sheet::with_kind))]
 fn with_kind(w: WorkingSheet, case: usize, kind: u8) -> WorkingSheet
     ensures { result ≡ with_kind w case kind }
 {
@@ -69,6 +73,7 @@ fn with_kind(w: WorkingSheet, case: usize, kind: u8) -> WorkingSheet
     sheet
 }
 
+#[tactic(auto, unfolding(crate::specs::Sheet::with_effects))]
 fn with_effects(w: WorkingSheet, field: &[u8]) -> WorkingSheet
     ensures { result ≡ with_effects w field.now }
 {
@@ -82,6 +87,7 @@ fn with_effects(w: WorkingSheet, field: &[u8]) -> WorkingSheet
     sheet
 }
 
+#[tactic(auto, unfolding(crate::specs::Sheet::with_capacities))]
 fn with_capacities(w: WorkingSheet, field: &[u8]) -> WorkingSheet
     ensures { result ≡ with_capacities w field.now }
 {
@@ -95,6 +101,7 @@ fn with_capacities(w: WorkingSheet, field: &[u8]) -> WorkingSheet
     sheet
 }
 
+#[tactic(auto, unfolding(crate::specs::Sheet::with_ice))]
 fn with_ice(w: WorkingSheet, ice: u8) -> WorkingSheet
     ensures { result ≡ with_ice w ice }
 {
@@ -103,6 +110,7 @@ fn with_ice(w: WorkingSheet, ice: u8) -> WorkingSheet
     sheet
 }
 
+#[tactic(auto, unfolding(crate::specs::Sheet::with_straining))]
 fn with_straining(w: WorkingSheet, straining: u16) -> WorkingSheet
     ensures { result ≡ with_straining w straining }
 {

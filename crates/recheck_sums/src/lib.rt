@@ -2,6 +2,8 @@
 // are worked out from the working sheet here, case by case, and compared with those that the library's sheet has.
 // Sums are 64 bits of two's complement: station s, component k, D at 6 s + k and F at 6 s + 3 + k.
 
+#![tactic(auto)]
+
 ghost use Rattle.std.specs.Prelude.{◌≡◌, ◌+◌, ◌%◌, ◌^◌, ◌<◌, if◌then◌else◌};
 ghost use Rattle.std.specs.Int.{w64};
 ghost use Rattle.std.proofs.Common.{of_z};

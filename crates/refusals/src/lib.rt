@@ -1,4 +1,7 @@
 // The refusals on the values of a body: each function gives the number of the first that is due, or 0.
+
+#![tactic(auto)]
+
 ghost use Rattle.std.specs.Prelude.{◌≡◌, cond};
 ghost use Rattle.standard.specs.Range.{method_outside, outside, straining_outside};
 ghost use Rattle.refusals.specs.Refusals.{effect_outside, capacity_outside, kind_outside, due_settings, due_fill_at, due_effects_at, due_empty_at, due_capacities, due_extremes, due_switch, due_straining, due_utilisation_at, due_name};
@@ -73,6 +76,7 @@ pub fn first(test: bool, number: u8, rest: u8) -> u8
     if test { number } else { rest }
 }
 
+#[tactic(auto, unfolding(crate::specs::Refusals::due_settings))]
 pub fn due_settings(method: u8, live: u8, zone: u8) -> u8
     ensures { result ≡ due_settings method live zone }
 {
@@ -82,6 +86,7 @@ pub fn due_settings(method: u8, live: u8, zone: u8) -> u8
 }
 
 // `held` is the kind at the place, 0 where it is empty.
+#[tactic(auto, unfolding(crate::specs::Refusals::due_fill_at))]
 pub fn due_fill(case: u8, kind: u8, held: u8) -> u8
     ensures { result ≡ due_fill_at held case kind }
 {
@@ -90,6 +95,7 @@ pub fn due_fill(case: u8, kind: u8, held: u8) -> u8
     first(LAST_CASE < case, 5, d)
 }
 
+#[tactic(auto, unfolding(crate::specs::Refusals::due_effects_at))]
 pub fn due_effects(case: u8, station: u8, n: u16, y: u16, z: u16, held: u8) -> u8
     ensures { result ≡ due_effects_at held case station n y z }
 {
@@ -101,6 +107,7 @@ pub fn due_effects(case: u8, station: u8, n: u16, y: u16, z: u16, held: u8) -> u
     first(LAST_CASE < case, 5, d)
 }
 
+#[tactic(auto, unfolding(crate::specs::Refusals::due_empty_at))]
 pub fn due_empty(case: u8, held: u8) -> u8
     ensures { result ≡ due_empty_at held case }
 {
@@ -108,6 +115,7 @@ pub fn due_empty(case: u8, held: u8) -> u8
     first(LAST_CASE < case, 5, d)
 }
 
+#[tactic(auto, unfolding(crate::specs::Refusals::due_capacities))]
 pub fn due_capacities(station: u8, n: u16, y: u16, z: u16) -> u8
     ensures { result ≡ due_capacities station n y z }
 {
@@ -117,6 +125,7 @@ pub fn due_capacities(station: u8, n: u16, y: u16, z: u16) -> u8
     first(LAST_STATION < station, 6, d)
 }
 
+#[tactic(auto, unfolding(crate::specs::Refusals::due_extremes))]
 pub fn due_extremes(station: u8, component: u8) -> u8
     ensures { result ≡ due_extremes station component }
 {
@@ -125,6 +134,7 @@ pub fn due_extremes(station: u8, component: u8) -> u8
 }
 
 // `held` is the station's first capacity, 0 where it has none.
+#[tactic(auto, unfolding(crate::specs::Refusals::due_utilisation_at))]
 pub fn due_utilisation(station: u8, held: u16) -> u8
     ensures { result ≡ due_utilisation_at held station }
 {
@@ -132,6 +142,7 @@ pub fn due_utilisation(station: u8, held: u16) -> u8
     first(LAST_STATION < station, 6, due)
 }
 
+#[tactic(auto, unfolding(crate::specs::Refusals::due_switch))]
 pub fn due_switch(byte: u8) -> u8
     ensures { result ≡ due_switch byte }
 {
@@ -139,12 +150,14 @@ pub fn due_switch(byte: u8) -> u8
 }
 
 // `method` is the sheet's.
+#[tactic(auto, unfolding(crate::specs::Refusals::due_straining))]
 pub fn due_straining(method: u8, factor: u16) -> u8
     ensures { result ≡ due_straining method factor }
 {
     first(straining_outside(method, factor), 15, 0)
 }
 
+#[tactic(auto, unfolding(crate::specs::Refusals::due_name))]
 pub fn due_name(case: u8) -> u8
     ensures { result ≡ due_name case }
 {

@@ -1,3 +1,5 @@
+#![tactic(auto)]
+
 ghost use Rattle.std.specs.Prelude.{◌≡◌, ◌<◌, ◌^◌};
 ghost use Rattle.standard.specs.Range.{SettingsInRange};
 ghost use Rattle.standard.specs.Combination.{case_count, denominator_of};
@@ -12,7 +14,7 @@ use naming::Sets;
 use standard::{Capacities, Settings};
 
 // The pattern of signs that governs, and whether the F cases act in it.
-#[derive(Drop)]
+#[derive(Clone, Copy)]
 pub struct Found {
     pub peak: Peak,
     pub fluid: bool,

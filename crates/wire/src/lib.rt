@@ -1,4 +1,7 @@
 // Bytes in and out of slices.
+
+#![tactic(auto)]
+
 ghost use Rattle.std.specs.Prelude.{◌≡◌, ◌+◌, ◌*◌, ◌<◌, ◌≤◌, length};
 ghost use Rattle.std.proofs.lemmas.List.Edits.{sets};
 ghost use Rattle.wire.specs.Bytes.{byte_at, word_at, signed16, bits16, bits64, bytes4, bytes8, Put};

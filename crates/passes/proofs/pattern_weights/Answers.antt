@@ -1,0 +1,18 @@
+-- Each weight is the product of the two other capacities, which fits, with the sign of its bit.
+use Prim.Native.Nat.{ℕ, ◌*◌, ◌%◌}
+use native.Mathlib.Nat.{div-one}
+use mathlib.Core.Path.{sym, ap, ◌∙◌}
+use lib.Dec.{eqb}
+use Rattle.integers.proofs.Machine.{read}
+use Rattle.envelope.specs.Envelope.{signed_by, pattern_of}
+use Rattle.passes.proofs.pattern_weights.Goals as goal
+
+pub returns : goal.returns
+unfolding pattern_of
+returns c =
+    let a = c.args in
+    let n = read c.signed_by.result c.signed_by.type_inv ∙ c.signed_by.ensures
+    ∙ sym (ap (λ (x : ℕ). signed_by (eqb (x % 2) 1) (a.p.y * a.p.z)) (div-one a.pattern)) in
+    let y = read c.signed_by-2.result c.signed_by-2.type_inv ∙ c.signed_by-2.ensures in
+    let z = read c.signed_by-3.result c.signed_by-3.type_inv ∙ c.signed_by-3.ensures in
+    λ i. record { n = n i; y = y i; z = z i }

@@ -1,0 +1,10 @@
+-- The numbers passed are compared as the definition says; the measure is what is left.
+use Rattle.std.proofs.Common.{◌≡◌, ◌-◌, ◌≤◌}
+use Rattle.recheck_sums.specs.Sums.{same_up_to}
+use Rattle.recheck_sums.proofs.sums_are.Given as goal
+
+abbrev pub invariant-loop-i : goal.invariant-loop-i
+invariant-loop-i l = (l.i ≤ 96) × (l.same ≡ same_up_to l.due l.sums l.i)
+
+abbrev pub decreases-loop-i : goal.decreases-loop-i
+decreases-loop-i l = 96 - l.i
