@@ -3,10 +3,10 @@
 use Prim.Native.Nat.{ℕ, suc, ◌+◌, ◌*◌, ◌-◌, ◌<◌, ◌≤◌}
 use native.Mathlib.Nat.{add-zero}
 use native.Mathlib.Omega.{arith}
-use mathlib.Core.Bool.{Bool, false, cond}
+use mathlib.Core.Bool.{false, cond}
 use mathlib.Core.List.{List}
-use mathlib.Core.Logic.{◌⊎◌, inl, inr, ⊎_elim}
-use mathlib.Core.Path.{◌≡◌, refl, sym, ap, subst, ◌∙◌}
+use mathlib.Core.Logic.{⊎_elim}
+use mathlib.Core.Path.{◌≡◌, sym, ap, subst, ◌∙◌}
 use lib.ListN.{length, get_or, take, drop, length-take, length-drop, get_or-eq_default}
 use lib.Seq.{get_or-take, get_or-drop}
 use lib.IntN.{ℤ, pos, nat_abs}
@@ -21,7 +21,7 @@ use Rattle.effects.specs.Effects.{station_length, effect_in, place}
 use Rattle.dead_sums.specs.DeadSums.{station_sums, dead_sum_count, sum_place, sum_in, of_dead_kind}
 use Rattle.dead_sums.proofs.Sums.{sums_long, sum_is}
 use Rattle.sheet.specs.declared.Sheet.{Sheet}
-use Rattle.sheet.specs.Sheet.{kind_at, effect_at, capacity_at}
+use Rattle.sheet.specs.Sheet.{effect_at, capacity_at}
 use Rattle.refusals.specs.Refusals.{capacity_outside}
 use Rattle.sheet.specs.Range.{InRange}
 use Rattle.sheet.specs.Looks.{station_effects, capacities_at}

@@ -1,3 +1,5 @@
+#![tactic(auto)]
+
 // The sheet: settings, 32 case places and 16 stations, and the edits of tags 01 to 05.
 ghost use Rattle.std.specs.Prelude.{◌≡◌, get_or, set, ℤ, List, [], ◌∷◌, ◌*◌, ◌<◌};
 ghost use Rattle.std.proofs.lemmas.List.Edits.{sets};
@@ -19,7 +21,7 @@ use standard::{CASES, Capacities, Settings};
 
 const CAPACITIES: usize = STATIONS * COMPONENTS;
 
-#[derive(Drop)]
+#[derive(Clone, Copy)]
 pub struct Sheet {
     pub settings: Settings,
     pub kinds: [u8; CASES],
@@ -29,7 +31,7 @@ pub struct Sheet {
 }
 
 // What reading a field answers.
-#[derive(Drop)]
+#[derive(Clone, Copy)]
 pub enum Answer {
     Accepted,
     Extremes(Extremes),
@@ -38,21 +40,21 @@ pub enum Answer {
 }
 
 // An answer with the sheet beside it.
-#[derive(Drop)]
+#[derive(Clone, Copy)]
 pub struct Answered {
     pub answer: Answer,
     pub sheet: Sheet,
 }
 
 // For the definitions: the refusal of an edit, or 0, and the sheet after it.
-#[derive(Drop)]
+#[derive(Clone, Copy)]
 pub struct Edited {
     pub refusal: u8,
     pub sheet: Sheet,
 }
 
 // A sheet apart from its effects and sums: the fields that work on it are lent those, and copy none.
-#[derive(Drop)]
+#[derive(Clone, Copy)]
 pub struct Rest {
     pub settings: Settings,
     pub kinds: [u8; CASES],
@@ -60,7 +62,7 @@ pub struct Rest {
 }
 
 // An answer with the rest beside it.
-#[derive(Drop)]
+#[derive(Clone, Copy)]
 pub struct AnsweredRest {
     pub answer: Answer,
     pub rest: Rest,

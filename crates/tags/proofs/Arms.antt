@@ -1,7 +1,7 @@
 -- What each arm of the reader's match answers is what the table of tags says, given the values that it reads from the body.
 -- Assumes nothing.
 use Prim.Native.Nat.{ℕ}
-use mathlib.Core.Path.{◌≡◌, refl, sym, ◌∙◌, ap}
+use mathlib.Core.Path.{◌≡◌, sym, ◌∙◌, ap}
 use mathlib.Core.List.{List}
 use Rattle.wire.specs.Bytes.{byte_at, word_at, signed16}
 use Rattle.standard.specs.Rows.{settings_of}

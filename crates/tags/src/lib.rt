@@ -1,3 +1,5 @@
+#![tactic(auto)]
+
 // The table of tags: what a field of each tag does to the sheet, and its answer.
 ghost use Rattle.std.specs.Prelude.{◌≡◌, false};
 ghost use Rattle.sheet.specs.Parts.{whole, whole_of};
