@@ -8,4 +8,4 @@ returns-clause-turned g c =
     let m = c.read_some-m in
     let p = c.answer_all-p in
     turned a.s a.effects.now a.sums.now a.input.now a.output.now m.result.ended m.result.failed c.requires.2 m.ensures p.ensures.progressed p.ensures.within.written
-        c.write_all-w.ensures c.shift.ensures
+    c.write_all-w.ensures c.shift.ensures
