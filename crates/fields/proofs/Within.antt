@@ -1,6 +1,6 @@
 -- A reading stays within the input and the output, and keeps the sheet in range.
 -- Assumes nothing.
-use Prim.Native.Nat.{ℕ, ◌+◌, ◌≤◌}
+use Prim.Native.Nat.{ℕ, ◌≤◌}
 use mathlib.Core.Path.{◌≡◌, refl, sym, ◌∙◌, ap, subst}
 use mathlib.Core.List.{List}
 use mathlib.Core.Bool.{Bool, cond}
@@ -8,13 +8,10 @@ use mathlib.Core.Logic.{⊎_elim}
 use native.Mathlib.Omega.{arith}
 use borrow.Author.Tests.{lt-ltb, le-ltb}
 use lib.ListN.{length}
-use lib.Dec.{eqb}
-use lib.Seq.{sets}
-use Rattle.wire.specs.Bytes.{bytes4, bytes8, over}
-use Rattle.wire.proofs.Cases.{lt_or_ge, both}
+use Rattle.wire.specs.Bytes.{over}
+use Rattle.wire.proofs.Cases.{lt_or_ge}
 use Rattle.wire.proofs.Stores.{put_long, front}
 use Rattle.sheet.specs.declared.Sheet.{Sheet}
-use Rattle.sheet.specs.declared.Answer.{Answer}
 use Rattle.sheet.specs.declared.Answer.TheVariants as answer
 use Rattle.sheet.specs.Range.{InRange}
 use Rattle.headers.specs.declared.Header.{Header}
@@ -25,7 +22,7 @@ use Rattle.fields.specs.Field.{read_field}
 use Rattle.fields.specs.Order.{reading, refused_with, read_header, read_in_order}
 use Rattle.fields.proofs.InOrder.{read_is}
 use Rattle.answers.proofs.Room.{answer_fits}
-use Rattle.answers.specs.Answers.{extreme_bytes, utilised_bytes, answer_bytes, answer_room}
+use Rattle.answers.specs.Answers.{answer_bytes, answer_room}
 use Rattle.fields.specs.Readings.{FieldRead, ReadWithin}
 use Rattle.headers.proofs.Whole.{header_fits}
 use Rattle.fields.proofs.Kept.{read_kept}

@@ -1,3 +1,5 @@
+#![tactic(auto)]
+
 // Reads one tagged field, edits the sheet and answers.
 ghost use Rattle.std.specs.Prelude.{◌≡◌};
 ghost use Rattle.fields.specs.Readings.{FieldRead, ReadWithin, whole_reading};
@@ -11,7 +13,7 @@ use effects::Effects;
 use headers::Header;
 use sheet::{Answer, AnsweredRest, Rest, Sheet};
 
-#[derive(Drop)]
+#[derive(Clone, Copy)]
 pub struct Reading {
     pub answer: Answer,
     pub sheet: Sheet,
@@ -20,7 +22,7 @@ pub struct Reading {
 }
 
 // A reading on a sheet whose effects and sums are lent.
-#[derive(Drop)]
+#[derive(Clone, Copy)]
 pub struct ReadRest {
     pub answer: Answer,
     pub rest: Rest,

@@ -1,3 +1,5 @@
+#![tactic(auto)]
+
 // Lists of fields in given bytes: how many fields there are, and whether an output has room for the answers to them.
 ghost use Rattle.std.specs.Prelude.{◌≡◌, length};
 ghost use Rattle.lists.specs.Lists.{fields_of, short};

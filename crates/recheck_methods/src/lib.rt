@@ -1,3 +1,5 @@
+#![tactic(auto)]
+
 // The library's calls on a sheet by value: each field's method and saving, compared with what the reader answered and with the
 // second program's saved form and sums.
 

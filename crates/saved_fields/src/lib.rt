@@ -1,3 +1,5 @@
+#![tactic(auto)]
+
 // Writes the fields of a saved sheet, place by place and station by station.
 ghost use Rattle.std.specs.Prelude.{◌≡◌, cond, [], ℕ, ◌+◌, ◌*◌, ◌<◌, ◌≤◌, length, get_or};
 ghost use Rattle.std.proofs.lemmas.List.Edits.{sets};

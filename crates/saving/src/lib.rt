@@ -1,3 +1,5 @@
+#![tactic(auto)]
+
 // Writes a sheet as the fields that make it.
 ghost use Rattle.std.specs.Prelude.{◌≡◌, ◌≤◌, List, ℤ, length};
 ghost use Rattle.wire.specs.Bytes.{Put};
@@ -12,7 +14,7 @@ use sheet::{Rest, Sheet};
 pub const SAVED_MOST: usize = 6 + 4 + 5 + 32 * (5 + 16 * 11) + 16 * 10;
 
 // The count of bytes written, or the refusal 14.
-#[derive(Drop)]
+#[derive(Clone, Copy)]
 pub enum Saved {
     Written(usize),
     Refused(u8),
