@@ -1,6 +1,6 @@
 -- The names kept of the cases: a name put into its place stands there, and the other names stay as they were.
 -- Assumes nothing.
-use Prim.Native.Nat.{ℕ, ◌+◌, ◌*◌, ◌-◌, ◌≤◌, ◌<◌}
+use Prim.Native.Nat.{ℕ, ◌+◌, ◌*◌, ◌≤◌, ◌<◌}
 use mathlib.Core.Path.{◌≡◌, refl, sym, ◌∙◌, ap}
 use mathlib.Core.List.{List, ◌++◌, append_assoc}
 use mathlib.Core.Bool.{Bool, cond}

@@ -5,23 +5,27 @@ ghost use Rattle.case_names.specs.Reading.{ReadAfter, Turned, Collected};
 
 use crate::table;
 use crate::table::{Lengths, Names};
+use std::io;
+use std::io::ErrorKind;
+use std::time::Clock;
 
 // In nanoseconds, how long to wait where a read cannot go on for now.
 const PAUSE: u32 = 1_000_000;
 
 // Whether a read that failed is to be made again: an interrupted one at once, one that cannot go on for now after a pause. Of any other
 // standard error is told.
-fn is_again() -> bool {
-    let error = os::errno();
-    if error == libc::EINTR {
-        return true;
+fn is_again(rt: &(impl Eprint + Clock), error: io::Error) -> bool {
+    match error.kind() {
+        ErrorKind::Interrupted => true,
+        ErrorKind::WouldBlock => {
+            pauses::wait(rt, PAUSE);
+            true
+        }
+        _ => {
+            transfers::tell(rt, "case_names: read", error);
+            false
+        }
     }
-    if error == libc::EAGAIN {
-        pauses::wait(PAUSE);
-        return true;
-    }
-    os::fail(b"case_names: read");
-    false
 }
 
 // How many bytes are at hand, whether another read is to follow, and whether the last one failed.
@@ -33,24 +37,29 @@ struct Read {
 }
 
 // Reads more bytes after those held. Where there is no room for any, as after a length above 60,000, it is as at the end of the file.
-fn read_more(fd: i32, input: &mut [u8], held: usize) -> Read
+fn read_more(
+    rt: &(impl Eprint + Clock),
+    file: &mut impl io::Read,
+    input: &mut [u8],
+    held: usize,
+) -> Read
     requires { held ≤ length input.old }
     ensures { ReadAfter held result.count input.old input.new }
 {
-    let got = libc::read(fd, &mut input[held..]);
-    if got < 0 {
-        let again = is_again();
-        return Read {
-            count: held,
-            more: again,
-            failed: !again,
-        };
-    }
-    let n = io::count(got, &input[held..]);
-    Read {
-        count: held + n,
-        more: n != 0,
-        failed: false,
+    match file.read(&mut input[held..]) {
+        Ok(n) => Read {
+            count: held + n,
+            more: n != 0,
+            failed: false,
+        },
+        Err(error) => {
+            let again = is_again(rt, error);
+            Read {
+                count: held,
+                more: again,
+                failed: !again,
+            }
+        }
     }
 }
 
@@ -63,11 +72,18 @@ struct State {
 }
 
 // One read. The names in its whole fields are kept, and the bytes after them are moved to the front.
-fn turn(fd: i32, held: usize, input: &mut [u8], names: &mut Names, lengths: &mut Lengths) -> State
+fn turn(
+    rt: &(impl Eprint + Clock),
+    file: &mut impl io::Read,
+    held: usize,
+    input: &mut [u8],
+    names: &mut Names,
+    lengths: &mut Lengths,
+) -> State
     requires { (held ≤ length input.old) × Fits names.old lengths.old }
     ensures { Turned held input.old names.old lengths.old result.held input.new names.new lengths.new }
 {
-    let m = read_more(fd, input, held);
+    let m = read_more(rt, file, input, held);
     let count = m.count;
     let end = drawing::whole_end(&input[0..count]);
     table::keep_names(&input[0..end], names, lengths);
@@ -81,7 +97,13 @@ fn turn(fd: i32, held: usize, input: &mut [u8], names: &mut Names, lengths: &mut
 
 // Reads to the end of the file, and says whether no read failed. A proved loop ends, and no fact says that the file does: the turns are
 // counted from a number that no run uses up.
-pub fn collect(fd: i32, input: &mut [u8], names: &mut Names, lengths: &mut Lengths) -> bool
+pub fn collect(
+    rt: &(impl Eprint + Clock),
+    file: &mut impl io::Read,
+    input: &mut [u8],
+    names: &mut Names,
+    lengths: &mut Lengths,
+) -> bool
     requires { NamesOf [] names.old lengths.old }
     ensures { Collected names.new lengths.new }
 {
@@ -93,7 +115,7 @@ pub fn collect(fd: i32, input: &mut [u8], names: &mut Names, lengths: &mut Lengt
     let mut left = u64::MAX;
     while left > 0 {
         let held = t.held;
-        t = turn(fd, held, input, names, lengths);
+        t = turn(rt, file, held, input, names, lengths);
         left = transfers::remaining(t.more, left);
     }
     !t.failed

@@ -1,3 +1,5 @@
+#![tactic(auto)]
+
 // The counts of a run of readings and their summary, and the buffers of the run.
 ghost use Rattle.std.specs.Prelude.{◌≡◌, length};
 
@@ -9,7 +11,7 @@ use std::num::wrapping_add_u64;
 // stations that differ then, looks that differ with other values at their own station, how often the name of a case in a file was
 // compared, how often there was one, files compared with themselves without their names, differences, and the number of the
 // first reading that differs (0: none).
-#[derive(Drop)]
+#[derive(Clone, Copy)]
 pub struct Tally {
     pub readings: u64,
     pub looks: u64,

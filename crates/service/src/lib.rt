@@ -1,4 +1,7 @@
 // The service: turns, for as long as they go on.
+
+#![tactic(auto)]
+
 ghost use Rattle.std.specs.Prelude.{◌≡◌, ◌≤◌, length, take};
 ghost use Rattle.effects.specs.Effects.{zeros, effect_count};
 ghost use Rattle.dead_sums.specs.DeadSums.{dead_sum_count};
@@ -10,10 +13,15 @@ ghost use Rattle.answers.specs.Answers.{answer_room};
 use dead_sums::DeadSums;
 use effects::Effects;
 use sheet::Rest;
+use std::io::{Read, Write};
+use std::time::Clock;
 use turns::Service;
 
 // A proved loop ends, and no fact says that the input does: the turns are counted from a number that no run uses up.
 pub fn serve(
+    rt: &(impl Eprint + Clock),
+    stdin: &mut impl Read,
+    stdout: &mut impl Write,
     effects: &mut Effects,
     sums: &mut DeadSums,
     input: &mut [u8],
@@ -33,7 +41,7 @@ pub fn serve(
     };
     let mut left = u64::MAX;
     while left > 0 {
-        s = turns::turn(s, effects, sums, input, output);
+        s = turns::turn(rt, stdin, stdout, s, effects, sums, input, output);
         left = transfers::remaining(s.more, left);
     }
     s

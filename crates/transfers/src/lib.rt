@@ -1,8 +1,16 @@
-// Reads from descriptor 0, writes to descriptor 1, and moves bytes within the input.
+// Reads bytes of input, writes bytes of output, and moves bytes within the input.
+
+#![tactic(auto)]
+
 ghost use Rattle.std.specs.Prelude.{◌≡◌, cond, ◌-◌, ◌≤◌, ◌<◌, length};
 ghost use Rattle.std.proofs.Math.Seq.{slice};
 ghost use Rattle.wire.specs.Bytes.{over};
 ghost use Rattle.transfers.specs.Filled.{Filled};
+
+use std::fmt::InlineText;
+use std::io;
+use std::io::ErrorKind;
+use std::time::Clock;
 
 // The turns left after one: a loop ends where it is not to go on.
 pub fn remaining(more: bool, left: u64) -> u64
@@ -21,6 +29,17 @@ fn longer(pause: u32) -> u32 {
     if pause < LONG_PAUSE { pause * 2 } else { pause }
 }
 
+// The line on standard error for a call that failed: what failed, and the system's text. Where the line cannot be written, nobody can be told.
+pub fn tell(rt: &impl Eprint, call: &str, error: io::Error) {
+    let said = InlineText::<300>::of(error);
+    let text = said.as_str();
+    // std writes the error's number after the text
+    let _ = match text.split_once(" (os error ") {
+        Some((words, _)) => rt.eprintln(format_args!("{call}: {words}")),
+        None => rt.eprintln(format_args!("{call}: {text}")),
+    };
+}
+
 // Whether a call that moved nothing is made again, and the pause where the next one cannot go on either.
 #[derive(Drop)]
 struct Retry {
@@ -28,24 +47,35 @@ struct Retry {
     pause: u32,
 }
 
+fn after_pause(rt: &impl Clock, pause: u32) -> Retry {
+    pauses::wait(rt, pause);
+    Retry {
+        again: true,
+        pause: longer(pause),
+    }
+}
+
 // A call that cannot go on for now is made again after a pause, an interrupted one at once. Any other has failed, which standard error
 // is told.
-fn moved_nothing(call: &[u8], moved: isize, pause: u32) -> Retry {
-    let error = os::errno();
-    if (moved == 0) | (error == libc::EAGAIN) {
-        pauses::wait(pause);
-        return Retry {
-            again: true,
-            pause: longer(pause),
-        };
-    }
-    if error == libc::EINTR {
-        return Retry { again: true, pause };
-    }
-    os::fail(call);
-    Retry {
-        again: false,
-        pause,
+fn moved_nothing(
+    rt: &(impl Eprint + Clock),
+    call: &str,
+    moved: io::Result<usize>,
+    pause: u32,
+) -> Retry {
+    let Err(error) = moved else {
+        return after_pause(rt, pause);
+    };
+    match error.kind() {
+        ErrorKind::WouldBlock => after_pause(rt, pause),
+        ErrorKind::Interrupted => Retry { again: true, pause },
+        _ => {
+            tell(rt, call, error);
+            Retry {
+                again: false,
+                pause,
+            }
+        }
     }
 }
 
@@ -58,20 +88,26 @@ struct Moved {
 }
 
 // Writes some of the bytes that are left.
-fn write_some(bytes: &[u8], count: usize, pause: u32) -> Moved
+fn write_some(
+    rt: &(impl Eprint + Clock),
+    stdout: &mut impl io::Write,
+    bytes: &[u8],
+    count: usize,
+    pause: u32,
+) -> Moved
     requires { count ≤ length bytes.now }
     ensures { result.count ≤ length bytes.now }
 {
-    let put = libc::write(1, &bytes[count..]);
-    if put <= 0 {
-        let r = moved_nothing(b"frames: write", put, pause);
+    let put = stdout.write(&bytes[count..]);
+    let n = put.unwrap_or(0);
+    if n == 0 {
+        let r = moved_nothing(rt, "frames: write", put, pause);
         return Moved {
             count,
             more: r.again,
             pause: r.pause,
         };
     }
-    let n = io::count(put, &bytes[count..]);
     let end = count + n;
     Moved {
         count: end,
@@ -87,7 +123,7 @@ pub struct Sent {
     pub taken: usize,
 }
 
-pub fn write_all(bytes: &[u8]) -> Sent
+pub fn write_all(rt: &(impl Eprint + Clock), stdout: &mut impl io::Write, bytes: &[u8]) -> Sent
     ensures { (result.given ≡ length bytes.now) × (result.taken ≤ length bytes.now) }
 {
     let given = bytes.len();
@@ -103,7 +139,7 @@ pub fn write_all(bytes: &[u8]) -> Sent
     while left > 0 {
         let count = m.count;
         let pause = m.pause;
-        m = write_some(bytes, count, pause);
+        m = write_some(rt, stdout, bytes, count, pause);
         left = remaining(m.more, left);
     }
     Sent {
@@ -123,7 +159,13 @@ pub struct Read {
 }
 
 // Reads more bytes after those held, unless a field can be read already.
-pub fn read_some(input: &mut [u8], held: usize, pause: u32) -> Read
+pub fn read_some(
+    rt: &(impl Eprint + Clock),
+    stdin: &mut impl io::Read,
+    input: &mut [u8],
+    held: usize,
+    pause: u32,
+) -> Read
     requires { held ≤ length input.old }
     ensures { Filled held result.count result.ended result.failed input.old input.new }
 {
@@ -135,17 +177,16 @@ pub fn read_some(input: &mut [u8], held: usize, pause: u32) -> Read
             pause,
         };
     }
-    let got = libc::read(0, &mut input[held..]);
-    if got < 0 {
-        let r = moved_nothing(b"frames: read", got, pause);
+    let got = stdin.read(&mut input[held..]);
+    let Ok(n) = got else {
+        let r = moved_nothing(rt, "frames: read", got, pause);
         return Read {
             count: held,
             ended: false,
             failed: !r.again,
             pause: r.pause,
         };
-    }
-    let n = io::count(got, &input[held..]);
+    };
     Read {
         count: held + n,
         ended: n == 0,

@@ -1,4 +1,7 @@
 // One turn of the service: it reads, answers the fields at hand, and writes.
+
+#![tactic(auto)]
+
 ghost use Rattle.std.specs.Prelude.{◌≡◌, ◌≤◌, length, take};
 ghost use Rattle.sheet.specs.Range.{InRange};
 ghost use Rattle.sheet.specs.Parts.{whole};
@@ -8,6 +11,8 @@ ghost use Rattle.answers.specs.Answers.{answer_room};
 use dead_sums::DeadSums;
 use effects::Effects;
 use sheet::Rest;
+use std::io::{Read, Write};
+use std::time::Clock;
 
 // What the service keeps from turn to turn: the sheet apart from its effects and sums, how many bytes of input it holds, the pause where a read
 // cannot go on, how many bytes of output it handed on and how many of them were written, and whether it goes on.
@@ -23,6 +28,9 @@ pub struct Service {
 
 // One read at most, the answers to the fields that are then at hand, and one write of them.
 pub fn turn(
+    rt: &(impl Eprint + Clock),
+    stdin: &mut impl Read,
+    stdout: &mut impl Write,
     s: Service,
     effects: &mut Effects,
     sums: &mut DeadSums,
@@ -36,12 +44,12 @@ pub fn turn(
     let rest = s.rest;
     let held = s.held;
     let pause = s.pause;
-    let m = transfers::read_some(input, held, pause);
+    let m = transfers::read_some(rt, stdin, input, held, pause);
     let end = m.count;
     let p = stream::answer_all(rest, effects, sums, m.ended, &input[0..end], output);
     let consumed = p.consumed;
     let written = p.written;
-    let w = transfers::write_all(&output[0..written]);
+    let w = transfers::write_all(rt, stdout, &output[0..written]);
     transfers::shift(input, consumed, end);
     let next = p.rest;
     Service {
