@@ -2,7 +2,7 @@
 use Prim.Native.Nat.{ℕ, ◌+◌, ◌*◌, ◌<◌, ◌^◌}
 use native.Mathlib.Omega.{arith}
 use mathlib.Core.Bool.{Bool}
-use mathlib.Core.Path.{◌≡◌, ◌∙◌, subst}
+use mathlib.Core.Path.{◌≡◌, refl, ◌∙◌, subst}
 use lib.IntN.{ℤ}
 use lib.Signed.{mag}
 use mir.Syntax.{w16, w64}
@@ -17,6 +17,12 @@ use Rattle.sums.specs.declared.Sides.{Sides}
 use Rattle.sums.specs.Sums.{sides_in, sides_with}
 use Rattle.sums.proofs.Held.{no_sides, sides_skip, sides_join, sides_room}
 use Rattle.sums.proofs.sides_of.Goals as goal
+
+-- a member is a case
+inside : {p : ℕ → Bool} {F : ℕ → Sides} {rest k : ℕ} {s : Sides} → Walk p case_count F rest s → Lowest rest k → k < case_count
+inside {p} {rest = rest} {k = k} {s = s} w =
+    let walk : Walk p case_count (λ _. s) rest s = record { upto = w.upto; inside = w.inside; left = w.left; gathered = refl } in
+    λ low. (walk_meets p case_count (λ _. s) (λ _ _ _. refl) rest k s walk low).inside
 
 -- at a member
 met : (compared : Bool) (set : ℕ) (e : ℕ → ℤ) {rest k : ℕ} {s : Sides} →
@@ -33,24 +39,16 @@ loop-rest-init c =
     walk_from case_count c.args.set (sides_in c.args.compared (has c.args.set) e) _ c.requires.0 (no_sides c.args.compared (has c.args.set) e)
 
 pub overflow_mul-at : goal.overflow_mul-at
-overflow_mul-at c =
-    let m = met c.args.compared c.args.set (λ k. effect_of c.args.effects.now k c.args.component) c.loop-rest.invariant c.lowest-k.ensures in
-    omega (arith, m.inside)
+overflow_mul-at c = omega (arith, inside c.loop-rest.invariant c.lowest-k.ensures)
 
 pub overflow_add-at : goal.overflow_add-at
-overflow_add-at c =
-    let m = met c.args.compared c.args.set (λ k. effect_of c.args.effects.now k c.args.component) c.loop-rest.invariant c.lowest-k.ensures in
-    omega (arith, m.inside, c.requires.2)
+overflow_add-at c = omega (arith, inside c.loop-rest.invariant c.lowest-k.ensures, c.requires.2)
 
 pub offset_bounds-effects-at : goal.offset_bounds-effects-at
-offset_bounds-effects-at c =
-    let m = met c.args.compared c.args.set (λ k. effect_of c.args.effects.now k c.args.component) c.loop-rest.invariant c.lowest-k.ensures in
-    omega (arith, m.inside, c.requires.2)
+offset_bounds-effects-at c = omega (arith, inside c.loop-rest.invariant c.lowest-k.ensures, c.requires.2)
 
 pub bounds-effects-at : goal.bounds-effects-at
-bounds-effects-at c =
-    let m = met c.args.compared c.args.set (λ k. effect_of c.args.effects.now k c.args.component) c.loop-rest.invariant c.lowest-k.ensures in
-    omega (arith, m.inside, c.requires.1.long, c.requires.2)
+bounds-effects-at c = omega (arith, inside c.loop-rest.invariant c.lowest-k.ensures, c.requires.1.long, c.requires.2)
 
 pub with_effect-s-requires : goal.with_effect-s-requires
 with_effect-s-requires c =
