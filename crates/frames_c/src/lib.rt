@@ -1,3 +1,5 @@
+#![tactic(auto)]
+
 // For programs in C and Rust: lists of fields, answered on a sheet that is given as its saved bytes, and case names in a file. No call keeps
 // a state.
 ghost use Rattle.std.specs.Prelude.{◌≡◌, length};
@@ -23,8 +25,7 @@ pub struct Ran {
 }
 
 // How many fields the bytes hold. One that is cut is the last.
-#[unsafe(no_mangle)]
-pub extern "C" fn frames_count(input: &[u8]) -> usize
+pub fn frames_count(input: &[u8]) -> usize
     ensures { result ≡ length (fields_of input.now) }
 {
     lists::count(input)
@@ -40,8 +41,7 @@ fn saved_count(s: Saved) -> usize
 }
 
 // Answers the fields of the input, one after the other, on the sheet that the state gives. Nothing is saved.
-#[unsafe(no_mangle)]
-pub extern "C" fn frames_answer(state: &[u8], input: &[u8], output: &mut [u8]) -> Ran
+pub fn frames_answer(state: &[u8], input: &[u8], output: &mut [u8]) -> Ran
     ensures { AnswerDone state.now input.now output.old result output.new }
 {
     let mut effects = [0i16; EFFECTS];
@@ -66,8 +66,7 @@ pub extern "C" fn frames_answer(state: &[u8], input: &[u8], output: &mut [u8]) -
 }
 
 // The same, and the sheet after them is saved.
-#[unsafe(no_mangle)]
-pub extern "C" fn frames_run(state: &[u8], input: &[u8], output: &mut [u8], saved: &mut [u8]) -> Ran
+pub fn frames_run(state: &[u8], input: &[u8], output: &mut [u8], saved: &mut [u8]) -> Ran
     ensures { RunDone state.now input.now output.old saved.old result output.new saved.new }
 {
     let mut effects = [0i16; EFFECTS];
@@ -95,8 +94,7 @@ pub extern "C" fn frames_run(state: &[u8], input: &[u8], output: &mut [u8], save
 }
 
 // Where the name of a load case stands in a file: no bytes where it has none.
-#[unsafe(no_mangle)]
-pub extern "C" fn frames_name(file: &[u8], case: u8) -> NamePlace
+pub fn frames_name(file: &[u8], case: u8) -> NamePlace
     ensures { result ≡ name_place file.now case }
 {
     drawing::name_place(file, case)
