@@ -1,3 +1,5 @@
+#![tactic(auto)]
+
 // The library's reader of case names (SCOPE 9.6) against the second program's, on the stored input taken as a file and on many parts of it.
 
 ghost use Rattle.std.specs.Prelude.{◌≡◌, ◌<◌, ◌≤◌, length};
@@ -7,7 +9,7 @@ use recheck_names::{after_field, name_of};
 use std::num::wrapping_add_u64;
 
 // Counts for the summary: how often the name of a case in a file was compared, how often there was one, and how often the readers differ.
-#[derive(Drop)]
+#[derive(Clone, Copy)]
 pub struct Compared {
     pub cases: u64,
     pub names: u64,
@@ -173,8 +175,8 @@ fn put_names(file: &mut [u8], front: &[u8], end: usize)
     requires front_len_bound { length front.now < 10 }
     requires end_bound { end < 60010 }
 {
-    bytes::copy(front, file);
-    bytes::copy(b"\x60\x00\x02\x00B", &mut file[end..]);
+    file[0..front.len()].copy_from_slice(front);
+    file[end..end + 5].copy_from_slice(b"\x60\x00\x02\x00B");
 }
 
 // Whether the library finds the name at this place in a file with such a front, a field that ends where the name `B` begins.

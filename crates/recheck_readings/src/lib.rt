@@ -1,3 +1,5 @@
+#![tactic(auto)]
+
 // The library's reader on a sheet by value, with what each reading takes and writes compared with what the header says.
 ghost use Rattle.std.specs.Prelude.{◌<◌, ◌≤◌, length};
 ghost use Rattle.sheet.specs.Range.{InRange};
@@ -7,7 +9,7 @@ use recheck_bytes::{UNWRITTEN, filled_from, pair_at};
 use sheet::{Answer, Sheet};
 
 // The sheet after a reading, what the reading took and wrote, and whether that is as it must be.
-#[derive(Drop)]
+#[derive(Clone, Copy)]
 pub struct Read {
     pub sheet: Sheet,
     pub consumed: usize,

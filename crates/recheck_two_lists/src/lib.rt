@@ -1,3 +1,5 @@
+#![tactic(auto)]
+
 // Two offices on one sheet (SCOPE 9.5): two lists of fields read side by side, each on a sheet of its own. They differ only in the effects
 // and capacities of chosen stations, and all answers must be the same but those to looks at these stations.
 ghost use Rattle.std.specs.Prelude.{◌≡◌, ◌<◌, ◌≤◌, length};
@@ -15,7 +17,7 @@ pub const ROOM: usize = 262144;
 
 // Counts for the summary: looks at stations that are not chosen, answered the same where the lists differ since the last tag 01; looks
 // at chosen stations that are answered differently; answers that are not as they must be.
-#[derive(Drop)]
+#[derive(Clone, Copy)]
 pub struct Counts {
     pub same: u64,
     pub different: u64,
@@ -23,14 +25,14 @@ pub struct Counts {
 }
 
 // The counts, and whether an accepted field differed since the last tag 01.
-#[derive(Drop)]
+#[derive(Clone, Copy)]
 struct Comparison {
     differ: bool,
     counts: Counts,
 }
 
 // The sheets of the two lists and the place of the next field in both.
-#[derive(Drop)]
+#[derive(Clone, Copy)]
 struct Lists {
     first: Sheet,
     second: Sheet,
