@@ -57,7 +57,7 @@ read_in_range {s} {m} h r = subst (λ (x : Reading). InRange x.sheet) (sym r.rea
 after_in_range : (s : Sheet) (gs : List Given) → InRange s → InRange (sheet_from s gs)
 unfolding sheet_from
 after_in_range s [] h = h
-after_in_range s (g ∷ gs) h = after_in_range _ gs (read_kept g.input g.room s h)
+after_in_range s (g ∷ gs) h = after_in_range (read_field g.input g.room s).sheet gs (read_kept g.input g.room s h)
 
 pub works_out : {s s' : Sheet} {ms : List Made} → Readings s ms s' → s' ≡ sheet_from s (map given ms)
 unfolding sheet_from

@@ -1,3 +1,5 @@
+#![tactic(auto)]
+
 // Reads lists of fields one after the other, and a sheet from its saved bytes.
 ghost use Rattle.std.specs.Prelude.{◌≡◌, true, false, ◌+◌, ◌<◌, length};
 ghost use Rattle.effects.specs.Effects.{zeros, effect_count};
@@ -14,7 +16,7 @@ use effects::Effects;
 use sheet::{Answer, Rest};
 
 // How far a list of fields is read: the sheet apart from its effects and sums, the first refusal, and the bytes consumed and written.
-#[derive(Drop)]
+#[derive(Clone, Copy)]
 pub struct Progress {
     pub rest: Rest,
     pub refusal: u8,

@@ -1,3 +1,5 @@
+#![tactic(auto)]
+
 // An input that comes in pieces: the fields at hand are answered.
 ghost use Rattle.std.specs.Prelude.{◌≡◌, [], ◌∷◌, not, ◌+◌, ◌-◌, ◌≤◌, length, drop};
 ghost use Rattle.sheet.specs.Range.{InRange};
@@ -13,7 +15,7 @@ use effects::Effects;
 use sheet::Rest;
 
 // The sheet apart from its effects and sums, how far the fields at hand are answered, whether another may be, and whether the service stops.
-#[derive(Drop)]
+#[derive(Clone, Copy)]
 pub struct Progress {
     pub rest: Rest,
     pub consumed: usize,
