@@ -1,3 +1,5 @@
+#![tactic(auto)]
+
 // The calls that a program makes, each with the contract that the demands speak of: a weaker contract of what it calls is refused here.
 ghost use Rattle.std.specs.Prelude.{List, ℤ};
 ghost use Rattle.fields.specs.Readings.{whole_reading};

@@ -15,7 +15,7 @@ pub const PLACE_ROOM: usize = 8192;
 
 // The refusal's number, or 0, and how many bytes were written and saved.
 #[repr(C)]
-#[derive(Drop)]
+#[derive(Clone, Copy)]
 pub struct Ran {
     pub refusal: u8,
     pub written: usize,

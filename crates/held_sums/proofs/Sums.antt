@@ -14,7 +14,6 @@ use Rattle.dead_sums.proofs.Sums.{sum_is}
 use Rattle.refusals.specs.Refusals.{due_empty_at}
 use Rattle.refusals.proofs.Fits.{empty_range}
 use Rattle.sheet.specs.declared.Sheet.{Sheet}
-use Rattle.sheet.specs.declared.Answer.TheVariants as answer
 use Rattle.sheet.specs.Sheet.{kind_at, effect_at, capacity_at, with_kind}
 use Rattle.sheet.specs.Parts.{rest_of, whole}
 use Rattle.sheet.specs.Range.{InRange}

@@ -121,6 +121,9 @@ all_same {t} a {s} {v} h g same (next r rs) (next q qs) (offices.next {m} {n} p 
     let x = depends_on_station t a s v h g same m n r q p in
     let y = all_same a (read_in_range h r) (read_in_range g q) x.1 rs qs ps in
     (offices.next x.0 y.0, y.1)
+-- lists of other lengths are no pair
+all_same a h g same none (next q qs) p = elim p [ ]
+all_same a h g same (next r rs) none p = elim p [ ]
 
 pub two_offices : TwoOffices
 two_offices t a ms ns s v r q p = all_same a fresh_kept fresh_kept (holds_itself t fresh_sheet) r q p

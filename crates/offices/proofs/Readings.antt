@@ -1,6 +1,6 @@
 -- One reading on two sheets that hold the same for a station.
 -- Assumes nothing.
-use Prim.Native.Nat.{ℕ, zero, suc, ◌+◌, ◌-◌, ◌≤◌, ◌<◌}
+use Prim.Native.Nat.{ℕ, zero, suc, ◌+◌, ◌≤◌, ◌<◌}
 use native.Mathlib.Omega.{arith}
 use borrow.Author.Tests.{eqb-true, ne_eqb}
 use mathlib.Core.Path.{◌≡◌, refl, sym, ◌∙◌, subst}

@@ -1,14 +1,8 @@
 -- One file for the service and the drawing office.
 -- Assumes nothing.
-use mathlib.Core.Path.{◌≡◌}
-use mathlib.Core.Bool.{Bool, true, not, ◌&&◌}
 use borrow.Author.Tests.{eqb-true}
 use lib.Dec.{eqb}
-use Prim.Native.Nat.{ℕ}
-use mathlib.Core.List.{List}
-use Rattle.wire.specs.Bytes.{byte_at}
-use Rattle.refusals.specs.Refusals.{case_outside}
-use Rattle.headers.specs.Headers.{tag_of, length_in, name_number, name_length}
+use Rattle.headers.specs.Headers.{tag_of, name_number}
 use Rattle.drawing.proofs.Names.{and_true}
 use Rattle.one_file.specs.OneFile.{is_name, PicksNames, OneFileForBoth}
 use Rattle.one_file.proofs.Bytes.{same_without}

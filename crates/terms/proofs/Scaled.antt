@@ -3,7 +3,7 @@
 use Prim.Native.Nat.{ℕ, ◌+◌, ◌*◌, ◌<◌, ◌≤◌, ◌^◌}
 use native.Mathlib.Nat.{mul-le-mul_right}
 use native.Mathlib.Omega.{arith}
-use mathlib.Core.Path.{◌≡◌, ap, ◌∙◌}
+use mathlib.Core.Path.{◌≡◌, refl, ap, ◌∙◌}
 use lib.IntN.{ℤ, pos, ◌+ℤ◌, ◌*ℤ◌, nat_abs}
 use lib.Signed.{mag}
 use mir.Syntax.{w64}
@@ -34,3 +34,26 @@ module _ (a x : ℤ) (ha : nat_abs a < 2 ^ 63) (hx : nat_abs x < 2 ^ 63) where
 
   pub gained_read : {r : ℤ} {f : ℕ} → Gained r (to_z w64 (of_z w64 a)) f (to_z w64 (of_z w64 x)) → Gained r a f x
   gained_read g = rw (back a ha, back x hx) at g
+
+-- ---- a total so far: what it is, and its size
+pub record Total (r : ℤ) (size : ℕ) (z : ℤ) : Type 0 where
+  pub is : r ≡ z
+  pub small : nat_abs r ≤ size
+
+pub nothing : Total (pos 0) 0 (pos 0)
+nothing = record { is = refl; small = omega arith }
+
+-- there is room for a term, and it joins
+module _ {total z : ℤ} {size : ℕ} (t : Total total size z) (x : ℤ) (h : size + factor_most * nat_abs x < 2 ^ 63) where
+  pub room : nat_abs (to_z w64 (of_z w64 total)) + factor_most * nat_abs (to_z w64 (of_z w64 x)) < 2 ^ 63
+  room = room_read total x (omega (arith, t.small)) (omega arith) (omega (arith, t.small))
+
+  pub joined : {r : ℤ} {f : ℕ} → Gained r (to_z w64 (of_z w64 total)) f (to_z w64 (of_z w64 x)) →
+      Total r (size + factor_most * nat_abs x) (z +ℤ pos f *ℤ x)
+  joined {f = f} g =
+      let q = gained_read total x (omega (arith, t.small)) (omega arith) g in
+      record { is = q.is ∙ ap (λ (y : ℤ). y +ℤ pos f *ℤ x) t.is; small = omega (arith, q.small, t.small) }
+
+-- what the machine reads back of a total
+pub told : {r z : ℤ} {size : ℕ} → mag r < 2 ^ 63 → Total r size z → Total (to_z w64 (of_z w64 r)) size z
+told {r = r} {z = z} {size = size} h t = rw (read r h) t

@@ -1,8 +1,9 @@
 -- The loop walks over the set: what the members passed make in the four directions is held.
 use Prim.Native.Nat.{ℕ}
 use native.Mathlib.Omega.{arith}
+use mathlib.Core.Bool.{Bool}
 use mathlib.Core.Path.{◌≡◌, ◌∙◌, subst}
-use Rattle.integers.specs.Sets.{has}
+use Rattle.integers.specs.Sets.{has, Lowest}
 use Rattle.integers.proofs.Walks.{Walk, Met, taken_away, walk_from, walk_meets, walk_end}
 use Rattle.standard.specs.Combination.{case_count}
 use Rattle.envelope.specs.Range.{effect_of}
@@ -12,74 +13,43 @@ use Rattle.directions.specs.Four.{directed, four_in, four_with}
 use Rattle.directions.proofs.FourHeld.{no_four, four_skip, four_join, four_room, directed_most}
 use Rattle.directions.proofs.four_sides_of.Goals as goal
 
-abbrev ways : goal.Start → ℕ → Directions
-ways s = directed s.args.w (effect_of s.args.effects.now)
-
-abbrev ways-2 : goal.After-lowest-k → ℕ → Directions
-ways-2 s = directed s.args.w (effect_of s.args.effects.now)
-
-abbrev ways-3 : goal.After-case_directions-d → ℕ → Directions
-ways-3 s = directed s.args.w (effect_of s.args.effects.now)
-
-abbrev ways-4 : goal.After-without_lowest-rest → ℕ → Directions
-ways-4 s = directed s.args.w (effect_of s.args.effects.now)
-
-abbrev ways-5 : goal.After-loop-rest → ℕ → Directions
-ways-5 s = directed s.args.w (effect_of s.args.effects.now)
-
-abbrev made : goal.Start → ℕ → FourSides
-made s = four_in s.args.compared (has s.args.set) (ways s)
-
-abbrev made-2 : goal.After-lowest-k → ℕ → FourSides
-made-2 s = four_in s.args.compared (has s.args.set) (ways-2 s)
-
-abbrev made-3 : goal.After-case_directions-d → ℕ → FourSides
-made-3 s = four_in s.args.compared (has s.args.set) (ways-3 s)
-
-abbrev made-4 : goal.After-without_lowest-rest → ℕ → FourSides
-made-4 s = four_in s.args.compared (has s.args.set) (ways-4 s)
-
-abbrev made-5 : goal.After-loop-rest → ℕ → FourSides
-made-5 s = four_in s.args.compared (has s.args.set) (ways-5 s)
-
-met : (c : goal.After-lowest-k) → Met (has c.args.set) case_count (made-2 c) c.loop-rest.rest c.lowest-k.result c.loop-rest.f
-met c =
-    walk_meets (has c.args.set) case_count (made-2 c) (four_skip c.args.compared (has c.args.set) (ways-2 c))
-    c.loop-rest.rest c.lowest-k.result c.loop-rest.f c.loop-rest.invariant c.lowest-k.ensures
-
-met-2 : (c : goal.After-case_directions-d) → Met (has c.args.set) case_count (made-3 c) c.loop-rest.rest c.lowest-k.result c.loop-rest.f
-met-2 c =
-    walk_meets (has c.args.set) case_count (made-3 c) (four_skip c.args.compared (has c.args.set) (ways-3 c))
-    c.loop-rest.rest c.lowest-k.result c.loop-rest.f c.loop-rest.invariant c.lowest-k.ensures
-
-met-3 : (c : goal.After-without_lowest-rest) → Met (has c.args.set) case_count (made-4 c) c.loop-rest.rest c.lowest-k.result c.loop-rest.f
-met-3 c =
-    walk_meets (has c.args.set) case_count (made-4 c) (four_skip c.args.compared (has c.args.set) (ways-4 c))
-    c.loop-rest.rest c.lowest-k.result c.loop-rest.f c.loop-rest.invariant c.lowest-k.ensures
+-- at a member
+met : (compared : Bool) (set : ℕ) (d : ℕ → Directions) {rest k : ℕ} {f : FourSides} →
+    Walk (has set) case_count (four_in compared (has set) d) rest f → Lowest rest k → Met (has set) case_count (four_in compared (has set) d) rest k f
+met compared set d {rest} {k} {f} = walk_meets (has set) case_count (four_in compared (has set) d) (four_skip compared (has set) d) rest k f
 
 pub loop-rest-init : goal.loop-rest-init
-loop-rest-init c = walk_from case_count c.args.set (made c) _ c.requires.0 (no_four c.args.compared (has c.args.set) (ways c))
+loop-rest-init c =
+    let d = directed c.args.w (effect_of c.args.effects.now) in
+    walk_from case_count c.args.set (four_in c.args.compared (has c.args.set) d) _ c.requires.0 (no_four c.args.compared (has c.args.set) d)
 
 pub case_directions-d-requires : goal.case_directions-d-requires
-case_directions-d-requires c = ((met c).inside, c.requires.1, c.requires.2)
+case_directions-d-requires c =
+    let m = met c.args.compared c.args.set (directed c.args.w (effect_of c.args.effects.now)) c.loop-rest.invariant c.lowest-k.ensures in
+    (m.inside, c.requires.1, c.requires.2)
 
 pub with_directions-f-requires : goal.with_directions-f-requires
 with_directions-f-requires c =
-    rw (c.case_directions-d.ensures, (met-2 c).gathered)
-    (four_room c.args.compared (has c.args.set) (ways-3 c) (directed_most c.args.effects.now c.args.w c.requires.1 c.requires.2) c.lowest-k.result (met-2 c).inside)
+    let d = directed c.args.w (effect_of c.args.effects.now) in
+    let m = met c.args.compared c.args.set d c.loop-rest.invariant c.lowest-k.ensures in
+    rw (c.case_directions-d.ensures, m.gathered)
+    (four_room c.args.compared (has c.args.set) d (directed_most c.args.effects.now c.args.w c.requires.1 c.requires.2) c.lowest-k.result m.inside)
 
 pub loop-rest-preserved : goal.loop-rest-preserved
 loop-rest-preserved c =
-    let m = met-3 c in
-    subst (λ (r : ℕ). Walk (has c.args.set) case_count (made-4 c) r c.with_directions-f.result)
+    let d = directed c.args.w (effect_of c.args.effects.now) in
+    let m = met c.args.compared c.args.set d c.loop-rest.invariant c.lowest-k.ensures in
+    subst (λ (r : ℕ). Walk (has c.args.set) case_count (four_in c.args.compared (has c.args.set) d) r c.with_directions-f.result)
     (taken_away c.loop-rest.rest c.lowest-k.result c.without_lowest-rest.result c.lowest-k.ensures c.without_lowest-rest.ensures)
     (m.after c.with_directions-f.result
     (c.with_directions-f.ensures
     ∙ (λ i. four_with c.args.compared (m.gathered i) (c.case_directions-d.ensures i))
-    ∙ four_join c.args.compared (has c.args.set) (ways-4 c) c.lowest-k.result m.member))
+    ∙ four_join c.args.compared (has c.args.set) d c.lowest-k.result m.member))
 
 pub returns : goal.returns
 returns c =
+    let d = directed c.args.w (effect_of c.args.effects.now) in
+    let made = four_in c.args.compared (has c.args.set) d in
     let none : c.loop-rest.rest ≡ 0 = omega arith in
-    walk_end (has c.args.set) case_count (made-5 c) (four_skip c.args.compared (has c.args.set) (ways-5 c)) c.loop-rest.f
-    (subst (λ (r : ℕ). Walk (has c.args.set) case_count (made-5 c) r c.loop-rest.f) none c.loop-rest.invariant)
+    walk_end (has c.args.set) case_count made (four_skip c.args.compared (has c.args.set) d) c.loop-rest.f
+    (subst (λ (r : ℕ). Walk (has c.args.set) case_count made r c.loop-rest.f) none c.loop-rest.invariant)

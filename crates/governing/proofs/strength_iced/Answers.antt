@@ -11,8 +11,9 @@ pub returns-then-s-eq1 : goal.returns-then-s-eq1
 returns-then-s-eq1 c =
     let a = c.args in
     let v : ℕ → ℤ = λ row. value_of a.s row a.t in
-    let one = row_more v a.b 13 0 (no_row v a.b 13 refl) c.with_row-b13.ensures in
-    row_more v a.b 13 2 (row_more v a.b 13 1 one c.with_row-b14.ensures) c.with_row.ensures
+    let b13 = row_more v a.b 13 0 (no_row v a.b 13 refl) c.with_row-b13.ensures in
+    let b14 = row_more v a.b 13 1 b13 c.with_row-b14.ensures in
+    row_more v a.b 13 2 b14 c.with_row.ensures
     ∙ ice_on a.s v a.b (rows_to 13 15) c.if-s-eq1.true
 
 pub returns : goal.returns

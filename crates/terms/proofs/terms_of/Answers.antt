@@ -1,5 +1,5 @@
 -- Each term from what the sums hold of its kinds.
-use Prim.Native.Nat.{ℕ, ◌*◌, ◌<◌, ◌≤◌, ◌^◌, max}
+use Prim.Native.Nat.{◌<◌, ◌^◌, max}
 use native.Mathlib.Omega.{arith}
 use mathlib.Core.Path.{◌≡◌, ◌∙◌, ap}
 use lib.IntN.{ℤ, pos, neg_ℤ, ◌+ℤ◌}
@@ -8,14 +8,8 @@ use mir.Syntax.{w64}
 use mir.Val.{to_z, of_z}
 use Rattle.integers.specs.Sums.{up}
 use Rattle.integers.proofs.Machine.{read}
-use Rattle.standard.specs.Kinds.{kind_count}
-use Rattle.envelope.specs.Range.{effect_most}
-use Rattle.sums.specs.Sums.{held_at}
 use Rattle.terms.specs.Value.{terms_by}
 use Rattle.terms.proofs.terms_of.Goals as goal
-
-held_most : (s : goal.After-held-2) (j t : ℕ) → 0 < j → j < kind_count → t < 2 → held_at s.args.sums.now j t ≤ 32 * effect_most
-held_most s j t = s.requires.0.each j t
 
 -- a call's number, as the machine reads it back
 back : {r z : ℤ} → mag r < 2 ^ 63 → r ≡ z → to_z w64 (of_z w64 r) ≡ z
@@ -24,7 +18,7 @@ back {r} h e = read r h ∙ e
 pub added-requires : goal.added-requires
 added-requires c =
     rw (back c.held.type_inv c.held.ensures, back c.held-2.type_inv c.held-2.ensures)
-    (omega (arith, held_most c 3 c.args.over (omega arith) (omega arith) c.requires.1, held_most c 4 c.args.over (omega arith) (omega arith) c.requires.1))
+    (omega (arith, c.requires.0.each 3 c.args.over (omega arith) (omega arith) c.requires.1, c.requires.0.each 4 c.args.over (omega arith) (omega arith) c.requires.1))
 
 pub returns : goal.returns
 unfolding terms_by

@@ -1,7 +1,7 @@
 -- A factor is small, so there is room for the term.
 use Prim.Native.Nat.{ℕ, ◌≤◌}
 use native.Mathlib.Omega.{arith}
-use mathlib.Core.Path.{◌≡◌, ◌∙◌, ap}
+use mathlib.Core.Path.{◌∙◌, ap}
 use lib.IntN.{pos}
 use Rattle.standard.proofs.Facts.{factor_le}
 use Rattle.standard.specs.declared.Settings.{Settings}
@@ -14,20 +14,14 @@ use Rattle.terms.proofs.with_term.Goals as goal
 limit : (s : Settings) (row kind : ℕ) → SettingsInRange s → factor_of s row kind ≤ factor_most
 limit s row kind range = omega (arith, factor_le s row kind range)
 
-factor-is : (c : goal.After-signed) → let a = c.args in c.signed.result ≡ pos (factor_of a.s a.row a.kind)
-factor-is c = c.signed.ensures ∙ ap pos c.factor-f.ensures
-
-factor-is-2 : (c : goal.After-scaled) → let a = c.args in c.signed.result ≡ pos (factor_of a.s a.row a.kind)
-factor-is-2 c = c.signed.ensures ∙ ap pos c.factor-f.ensures
-
 pub scaled-requires : goal.scaled-requires
 scaled-requires c =
     let a = c.args in
-    term_room a.total c.signed.result a.x (factor_of a.s a.row a.kind) (factor-is c) (limit a.s a.row a.kind c.requires.5)
-    c.ranges.total.sfits c.signed.type_inv c.ranges.x.sfits c.requires.4
+    term_room a.total c.signed.result a.x (factor_of a.s a.row a.kind) (c.signed.ensures ∙ ap pos c.factor-f.ensures)
+    (limit a.s a.row a.kind c.requires.5) c.ranges.total.sfits c.signed.type_inv c.ranges.x.sfits c.requires.4
 
 pub returns : goal.returns
 returns c =
     let a = c.args in
-    term_gained a.total c.signed.result a.x (factor_of a.s a.row a.kind) (factor-is-2 c) (limit a.s a.row a.kind c.requires.5)
-    c.ranges.total.sfits c.signed.type_inv c.ranges.x.sfits c.scaled.result c.scaled.type_inv c.scaled.ensures
+    term_gained a.total c.signed.result a.x (factor_of a.s a.row a.kind) (c.signed.ensures ∙ ap pos c.factor-f.ensures)
+    (limit a.s a.row a.kind c.requires.5) c.ranges.total.sfits c.signed.type_inv c.ranges.x.sfits c.scaled.result c.scaled.type_inv c.scaled.ensures
