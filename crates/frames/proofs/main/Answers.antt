@@ -5,4 +5,4 @@ use Rattle.frames.proofs.main.Goals as goal
 
 pub serve-requires : goal.serve-requires
 unfolding zeros
-serve-requires g c = (refl, refl, search rules)
+serve-requires c = (refl, refl, search rules)
