@@ -1,3 +1,5 @@
+#![tactic(auto)]
+
 // One file for both readers (SCOPE 9.7), by the exported calls: the file without its names makes the same sheet, the fields that remain
 // have the same answers, and no name is left. The places that `frames_name` gives are the second program's.
 
@@ -16,14 +18,14 @@ const SAVED_ROOM: usize = 8192;
 const ROOM: usize = 262144;
 
 // Counts for the summary: files with a name to leave out in which all is as it must be, and files in which something is not.
-#[derive(Drop)]
+#[derive(Clone, Copy)]
 pub struct Files {
     pub files: u64,
     pub failed: u64,
 }
 
 // The place of a field, of its answer, and of that answer among those to the fields that remain; whether all so far are the same there.
-#[derive(Drop)]
+#[derive(Clone, Copy)]
 struct Place {
     at: usize,
     from: usize,

@@ -29,7 +29,7 @@ const SAVED_ROOM: usize = 8192;
 
 // The reader's sheet, the second checker's working sheet, the place of the next field, and that of its answer among those of
 // the fields in one list.
-#[derive(Drop)]
+#[derive(Clone, Copy)]
 struct Run {
     sheet: Sheet,
     working: WorkingSheet,

@@ -1,1 +1,3 @@
+#![tactic(auto)]
+
 // Statements and their proofs only.
