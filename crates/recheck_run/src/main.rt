@@ -1,3 +1,5 @@
+#![tactic(auto)]
+
 // Runs the library's reader over the stored fields on standard input, has each answer checked by the second checker (crate
 // recheck_answers), the library's other calls compared with it, its extremes with those of the sheet with signs turned, the sums
 // that its sheet holds with those of the working sheet, its answers with those to fields with other values at other stations and its
