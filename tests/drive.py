@@ -15,7 +15,10 @@ def random_fields(seed):
     for _ in range(2000):
         tag = r.randrange(0, 11)
         n = LENGTHS.get(tag, 0) if r.random() < 0.9 else r.randrange(0, 300)
-        b += f(tag, bytes(r.choice([0, 1, 2, 3, 9, 14, 16, 40, 255]) for _ in range(n)))
+        body = bytes(r.choice([0, 1, 2, 3, 9, 14, 16, 40, 255]) for _ in range(n))
+        if tag == 1 and r.random() < 0.1:  # few of the others are accepted
+            body = bytes(model.random_settings(r))
+        b += f(tag, body)
     return b
 
 

@@ -29,23 +29,28 @@ class Engine:
 
     def read(self, b):
         """The answer to a reading."""
-        s, number = self.sheet, m.refusal(self.sheet, b)
+        s, number = self.sheet, self.number(b)
         if number:
             self.refused(b, number)
-        elif b[0] == 6:
+            return m.refused(number)
+        if b[0] == 6:
             unit = [int(k == b[4]) for k in range(3)]
             high, low = (self.greatest(b[3], [sign * u for u in unit]) for sign in (1, -1))
             return b'\x86\0\x22' + struct.pack('>qBII', *high) + struct.pack('>qBII', -low[0], *low[1:])
         elif b[0] == 7:
             return self.utilisation(b[3])
-        elif b[0] == 1:
+        if b[0] == 1:
             self.restart()
         elif b[0] == 3:
             self.replace(b[3], b[4], s.eff(b[3], b[4]), struct.unpack('>3h', b[5:11]))
         elif b[0] == 4:
             self.drop(b[3])
-        self.sheet, answer = m.serve(s, b, None)
+        self.sheet, answer = m.done(s, b, None)
         return answer
+
+    def number(self, b):
+        """The number of the refusal that is given, or 0."""
+        return m.refusal(self.sheet, b)
 
     def count(self, kind, station, effects, sign=1):
         """Counts effects in, or out with sign -1."""
@@ -69,8 +74,22 @@ class Engine:
     def sum_of(self, kind, station):
         return self.sums[kind, station]
 
+    def open_rows(self):
+        return m.rows(self.sheet.method, self.sheet.zone, self.sheet.ice)
+
+    def factor(self, row, columns, kind):
+        return self.sheet.factor(row, columns, kind)
+
+    def low_factor(self):
+        """That of Hp, or None."""
+        return m.LOW.get(self.sheet.method)
+
     def effects_of(self, case, station):
         return self.sheet.eff(case, station)
+
+    def unit(self):
+        """What stands for a load factor of 1 in the denominator of a utilisation."""
+        return m.UNIT[self.sheet.method]
 
     def capacities_of(self, station):
         return self.sheet.cap[station]
@@ -83,20 +102,23 @@ class Engine:
         """The case of a group that acts, of (its factored effect with the sign turned, case): the first of equal ones."""
         return min(group)
 
+    def saved(self):
+        return self.sheet.saved()
+
     def restored(self):
         """The sheet read from its saved form."""
-        saved, self.sheet, self.sums = self.sheet.saved(), m.Sheet(), no_sums()
+        saved, self.sheet, self.sums = self.saved(), m.Sheet(), no_sums()
         for b in m.fields_of(saved):
             Engine.read(self, b)
 
     def greatest(self, station, weights):
         """The greatest weighed effect, its row, its acting cases and its low set, by the tie rule (docs/DECISIONS.md)."""
-        s, best = self.sheet, None
+        s, best, low_factor = self.sheet, None, self.low_factor()
         weighed = lambda effects: sum(w * x for w, x in zip(weights, effects))
         held = {kind: weighed(self.sum_of(kind, station)) for kind in HELD}
         cases = [(c, k, weighed(self.effects_of(c, station))) for c, k in sorted(s.kind.items())]
-        for row, columns in sorted(m.rows(s.method, s.zone, s.ice).items()):
-            factor = {k: s.factor(row, columns, k) for k in set(s.kind.values())}
+        for row, columns in sorted(self.open_rows().items()):
+            factor = {k: self.factor(row, columns, k) for k in set(s.kind.values())}
             value, acting, low, lead = 0, 0, 0, {}
             for kind in HELD:
                 if factor.get(kind) and (kind == D or held[kind] > 0):
@@ -106,8 +128,9 @@ class Engine:
                 if k in HELD or not factor[k]:
                     continue
                 if k == HP:
-                    value += x * (factor[k] if x >= 0 else 900 if s.method == 1 else 600)
-                    acting, low = acting | 1 << c, low | (x < 0) << c
+                    at_low = x < 0 and low_factor is not None
+                    value += x * (low_factor if at_low else factor[k])
+                    acting, low = acting | 1 << c, low | at_low << c
                 elif x > 0 and k in (L, HV, T):
                     value, acting = value + factor[k] * x, acting | 1 << c
                 elif x > 0:
@@ -121,8 +144,8 @@ class Engine:
 
     def utilisation(self, station):
         nc, yc, zc = self.capacities_of(station)
-        unit, denominator = (yc * zc, nc * zc, nc * yc), 1000 * nc * yc * zc
-        found = [self.greatest(station, [-u if p >> k & 1 else u for k, u in enumerate(unit)]) for p in range(8)]
+        products, denominator = (yc * zc, nc * zc, nc * yc), self.unit() * nc * yc * zc
+        found = [self.greatest(station, [-u if p >> k & 1 else u for k, u in enumerate(products)]) for p in range(8)]
         best = max(found, key=lambda x: x[0])
         return b'\x87\0\x1a' + struct.pack('>qqBBII', best[0], denominator, int(best[0] <= denominator), *best[1:])
 
@@ -314,6 +337,17 @@ def restored(self):
     self.sums = no_sums()
 
 
+def saved_otherwise(engine, readings):
+    """The number of the first reading after which something else is saved than is due, from 1 on, or nothing."""
+    sheet = m.Sheet()
+    for n, (b, _) in enumerate(readings, 1):
+        engine.read(b)
+        if b[0] not in (6, 7):
+            sheet, _ = m.serve(sheet, b, None)
+        if engine.saved() != sheet.saved():
+            return n
+
+
 def difference(engine, readings):
     """The number of the first reading whose answer is not the one due, from 1 on, or nothing."""
     for n, (b, answer) in enumerate(readings, 1):
@@ -333,7 +367,7 @@ def answered(readings):
 def stored_of_frames():
     """The stored fields and their answers, as they stand: the last field that is answered is one of 60,001 bytes."""
     stream, answers = (m.fields_of(open(path, 'rb').read()) for path in make.FILES)
-    for part in (make.held(), make.offices(), make.names()):
+    for part in (make.held(), make.alternative(), make.offices(), make.names()):
         assert part in b''.join(stream), 'crates/frames/stdin is not that of make.py'
     assert answers[-1] == b'\x81\0\1\3' and len(stream[len(answers) - 1]) == 60004
     return list(zip(stream, answers))
@@ -361,10 +395,11 @@ def taken_right(name, engine):
     return ok
 
 
-def caught(name, engine, lists):
-    """Whether the lists of `frames` and those of `recheck_run` each catch the engine, with its line printed."""
-    found = [difference(engine(), readings) for readings in lists]
-    ok = None not in found[name == AFTER_3:]
+def caught(name, engine, lists, find=difference, beyond=None):
+    """Whether the lists of `frames` and those of `recheck_run` each catch the engine, with its line printed. `beyond` is the number of the one
+    that cannot show its error."""
+    found = [find(engine(), readings) for readings in lists]
+    ok = all(n is not None for k, n in enumerate(found) if k != beyond)
     told = ['not caught' if n is None else 'caught at reading %d' % n for n in found]
     print('%s: wrong: %s: %s of `frames`, %s of `recheck_run`' % ('ok' if ok else 'FAILED', name, *told), flush=True)
     return ok
@@ -373,7 +408,7 @@ def caught(name, engine, lists):
 def tried():
     """Whether each engine is taken as it should be, with its line printed."""
     ok = [taken_right('sums held', Engine), taken_right('sums held, each field on a saved sheet', Saved)]
-    return ok + [caught(name, engine, lists_on_held_sums()) for name, engine in WRONG.items()]
+    return ok + [caught(name, engine, lists_on_held_sums(), beyond=0 if name == AFTER_3 else None) for name, engine in WRONG.items()]
 
 
 def finish(ok):

@@ -33,15 +33,16 @@ def combos(sheet):
 def named(sheet, station, weights, value):
     """Where several combinations reach the number, the one by docs/DECISIONS.md, "Ties": the first of equal rows; a case acts
     only where it adds, and the F cases only where their sum does; the first of equal cases of a group; an Hp is low only where that
-    adds. `weights`: weighed effect."""
+    adds and there is a low factor. `weights`: weighed effect."""
     e = {c: sum(w * x for w, x in zip(weights, sheet.eff(c, station))) for c in sheet.kind}
+    at_low = {c for c in sheet.kind if sheet.method in m.LOW and e[c] < 0}
     full = sum(e[c] for c, k in sheet.kind.items() if k == F) > 0
     reach = []
     for row, terms, acting, low in combos(sheet):
         if sum(fa * e[c] for c, fa, _ in terms) != value:
             continue
         free = [c for c, _, _ in terms if sheet.kind[c] not in (D, F, HP)]
-        if any(e[c] <= 0 for c in free) or any(l != (e[c] < 0) for c, _, l in terms if sheet.kind[c] == HP):
+        if any(e[c] <= 0 for c in free) or any(l != (c in at_low) for c, _, l in terms if sheet.kind[c] == HP):
             continue
         if not full and any(sheet.kind[c] == F for c, _, _ in terms):
             continue
@@ -91,7 +92,7 @@ def utilisation(sheet, station):
         w = [-u if p >> k & 1 else u for k, u in enumerate(unit)]
         reached = any(x == num == sum(y * z for y, z in zip(w, part)) for x, part, _ in every)
         patterns.append((w, num if reached else None))
-    return (num, 1000 * nc * yc * zc) + choose([k for x, _, k in every if x == num], sheet, station, patterns)
+    return (num, sheet.denominator(station)) + choose([k for x, _, k in every if x == num], sheet, station, patterns)
 
 
 def serve(sheet, b):
@@ -145,7 +146,7 @@ CUT = {  # each ends with a 3; P2's bytes after a length above 60,000 are not an
     'body_cut': h('01000301'), 'body_cut_after_p2': P2_IN + h('0300080000'),
     'length_60001_at_once_and_stop': h('01EA61') + P2_IN, 'length_65535_at_once_and_stop': P2_IN + h('01FFFF') + P2_IN,
     '3_before_1_cut_unknown_tag': h('7F0001'), '3_before_1_long_unknown_tag': h('FFEA61') + P2_IN, '3_before_2_cut_wrong_length': h('04000200'),
-    '3_before_2_long_wrong_length': h('04EA61') + P2_IN, '3_before_4_cut': h('0100030300'), '3_before_5_cut': h('03000820'), '3_before_6_cut': h('06000210'),
+    '3_before_2_long_wrong_length': h('04EA61') + P2_IN, '3_before_4_cut': h('0100030400'), '3_before_5_cut': h('03000820'), '3_before_6_cut': h('06000210'),
     'name_header_cut_after_1_byte': h('60'), 'name_header_cut_after_2_bytes': h('6000'), 'name_header_alone': h('600002'),
     'name_cut': h('60000500444541'), 'name_cut_after_its_case': h('60000200'), '3_before_2_cut_name_of_no_bytes': h('600001'),
     '3_before_2_cut_name_of_25_bytes': h('60001A20') + bytes(24), '3_before_2_long_name': h('60EA61') + P2_IN,
@@ -159,13 +160,13 @@ def refusals():
     small input."""
     b = f(4, 0) + f(7, 0) + f(6, 0, 0) + f(3, 0, 0, effects(1, 1, 1)) + b''.join(m.before_any_settings())
     no = [12, 13, 12, 13]
-    small = [('7F0000', 1), ('0400020000', 2), ('010003030000', 4), ('04000120', 5), ('07000110', 6), ('020002000F', 7), ('08000102', 4), ('0900020000', 15),
-             ('0600020003', 8), ('0300080000271100000000', 9), ('05000700000000010001', 10), ('04000100', 12), ('07000100', 13)]
+    small = [('7F0000', 1), ('0400020000', 2), ('010003040000', 4), ('010003030001', 4), ('04000120', 5), ('07000110', 6), ('020002000F', 7),
+             ('08000102', 4), ('0900020000', 15), ('0600020003', 8), ('0300080000271100000000', 9), ('05000700000000010001', 10), ('04000100', 12), ('07000100', 13)]
     for s, n in small:
         b += FRESH + h(s) + f(6, 0, 0)
         no.append(n)
-    b += FRESH + h('0200020001') * 2 + f(6, 0, 0)
-    no.append(11)
+    b += FRESH + h('0200020001') * 2 + f(6, 0, 0) + h('010003030000 08000100') + f(6, 0, 0)
+    no += [11, 16]
     b += FRESH
     for tag in (0x00, 0x0A, 0xFF, 0x80, 0x81, 0x86, 0x87):
         b += f(tag) + f(tag, 1)
@@ -182,12 +183,14 @@ def refusals():
 def limits():
     """The limits of each value: the first one outside is refused, the last one inside is not."""
     b, no = FRESH, []
-    for body in ((0, 0, 0), (3, 0, 0), (255, 0, 0), (1, 2, 0), (1, 255, 0), (2, 0, 3), (1, 1, 255)):
+    for body in ((0, 0, 0), (4, 0, 0), (255, 0, 0), (1, 2, 0), (1, 255, 0), (2, 0, 3), (1, 1, 255), (3, 0, 1), (3, 1, 2), (3, 2, 0), (3, 0, 3)):
         b += f(1, *body)
         no.append(4)
     b += f(8, 1) + f(8, 2) + f(8, 255) + f(8, 0)
     no += [4, 4]
-    for method, inside, outside in ((1, (1000, 2000, 1001), (999, 2001, 749, 750, 0, 65535)), (2, (750, 1000, 999), (749, 1001, 2000, 0, 65535))):
+    strength = (1000, 2000, 1001), (999, 2001, 749, 750, 0, 65535)
+    allowable = (750, 1000, 999), (749, 1001, 2000, 0, 65535)
+    for method, (inside, outside) in ((1, strength), (2, allowable), (3, allowable)):
         b += f(1, method, 0, 0) + b''.join(f(9, word(n)) for n in inside + outside)
         no += [15] * len(outside)
     b += FRESH
@@ -222,13 +225,13 @@ def orders():
         full += [(f(3, 32, 0, x), 5), (f(3, 32, 16, x), 5), (f(3, 0, 16, x), 6), (f(3, 5, 0, x), 9), (f(3, 5, 16, x), 6), (f(3, 0, 0, x), 9)]
     for x in (caps(0, 3, 3), caps(3, 10001, 3), caps(3, 3, 0), caps(0, 0, 0)):
         full += [(f(5, 16, x), 6), (f(5, 0, x), 10), (f(5, 1, x), 10)]
-    full += [(f(1, *x), 4) for x in ((0, 0, 0), (2, 2, 0), (2, 1, 3), (3, 2, 3))]
+    full += [(f(1, *x), 4) for x in ((0, 0, 0), (2, 2, 0), (2, 1, 3), (4, 2, 3))]
     full += [(f(8, 2), 4), (f(8, 255), 4), (f(8), 2), (f(8, 0, 0), 2), (f(8, 2, 0), 2)]
     full += [(f(9, word(n)), 15) for n in (999, 2001, 750, 0, 65535)]
     full += [(f(9), 2), (f(9, 7), 2), (f(9, word(2001), 0), 2), (f(9, word(1000), 0), 2)]
     # 1 before 2 and before any value of the body; 2 before each refusal of a body value and before 11, 12, 13
     full += [(f(t, bytes([255] * n)), 1) for t in (0x00, 0x0A, 0x7F, 0xFF) for n in (1, 2, 3, 8)]
-    full += [(f(1, 3, 2, 3, 0), 2), (f(1, 3, 2), 2), (f(2, 32, 15, 0), 2), (f(2, 32), 2), (f(2, 0, 1, 0), 2), (f(3, 32, 16, bad[0], 0), 2), (f(3, 32, 16), 2),
+    full += [(f(1, 4, 2, 3, 0), 2), (f(1, 4, 2), 2), (f(2, 32, 15, 0), 2), (f(2, 32), 2), (f(2, 0, 1, 0), 2), (f(3, 32, 16, bad[0], 0), 2), (f(3, 32, 16), 2),
              (f(3, 5, 0, z, 0), 2), (f(4, 32, 32), 2), (f(4, 5, 5), 2), (f(5, 16, caps(0, 0, 0), 0), 2), (f(5, 16), 2), (f(5, 0, caps(0, 0, 0)[:5]), 2),
              (f(6, 16, 3, 0), 2), (f(6, 16), 2), (f(6, 0, 3, 0), 2), (f(7, 16, 0), 2), (f(7, 1, 1), 2)]
     # a unique combination at each look, so a changed factor, effect or capacity would show
@@ -334,8 +337,8 @@ def search(tries, seed):
 
 
 def every_setting():
-    """Point 5: methods, zones, live options and ice with several straining factors, a case of each kind (F, W, E, Fa, Hp, Di, Wi and T
-    twice), five stations, no ties."""
+    """Point 5: methods 1 and 2, zones, live options and ice with several straining factors, a case of each kind (F, W, E, Fa, Hp, Di, Wi and
+    T twice), five stations, no ties. In method 3 rows 52 and 54 tie wherever S does not act, and so do 53 and 55."""
     b = b''
     assert all(unique_station(v, c) for _, v, c in STATIONS)
     for setting in settings():
@@ -402,7 +405,7 @@ def straining():
     return b
 
 
-PAIR_SETTINGS = [(1, 1, 1, 1, 2000), (2, 0, 2, 1, 750)]
+PAIR_SETTINGS = [(1, 1, 1, 1, 2000), (2, 0, 2, 1, 750), (3, 1, 0, 0, 875)]
 
 
 def every_kind(setting, values, cap):
@@ -434,6 +437,25 @@ def pair():
     b += b''.join(turned_by_edits_and_afresh(every_kind(s, v, c), looks) for s, (_, v, c) in zip(PAIR_SETTINGS, STATIONS))
     due(b, [])
     return b
+
+
+def alternative():
+    """Point 15: method 3. What is worked by hand, with the rows named by the tie rule; refused fields and the other methods on one sheet; the
+    greatest numbers, from 32 cases with effects at their limits."""
+    m.check_alternative()
+    for fields, (cases, _, hi, lo, rows_hi, rows_lo) in zip(m.alternative_sheets(), m.ALTERNATIVE_WORKED):
+        got = struct.unpack('>qBIIqBII', answers(fields)[-1][3:])
+        assert got[:2] + got[3:6] + got[7:] == (hi, min(rows_hi), 0, lo, min(rows_lo), 0), (cases, got)
+    assert answers([f(1, 3, 0, 0)] + [b for b, _ in m.ALTERNATIVE_ANSWERS]) == [m.ACCEPTED] + [a for _, a in m.ALTERNATIVE_ANSWERS]
+    refused = [no for _, no in m.ALTERNATIVE_REFUSED] + [a[3] for _, a in m.ALTERNATIVE_ANSWERS if a[0] == 0x81]
+    due(b''.join(m.alternative()), refused + [4, 16, 4, 4] + [9])  # those of the switch and of the sums follow
+    got = [struct.unpack('>qqB9x', a[3:]) for a in answers(m.alternative_utilisations()) if a[0] == 0x87]
+    assert got == [(num, den, ok) for _, _, *tried in m.ALTERNATIVE_UTILISATIONS for (_, num, den), ok in zip(tried, (1, 0))], got
+    greatest = m.sheet([(D, 10000)] * 32, method=3) + [f(5, 0, caps(10000, 10000, 10000)), f(6, 0, 0), f(7, 0)]
+    extremes, use = (a[3:] for a in answers(greatest)[-2:])
+    assert struct.unpack('>q9xq9x', extremes) == (6720000000, 4480000000)
+    assert struct.unpack('>qq10x', use) == (672000000000000000, 21000000000000000)
+    return b''.join(m.alternative() + greatest)
 
 
 def held():
@@ -491,7 +513,7 @@ def check_pair(fields, station, second):
 
 
 def offices():
-    """Point 13: SCOPE 9.5. R1, R2 and R3; pairs of lists of all tags, in both methods and every zone, on all stations, with fields that are
+    """Point 13: SCOPE 9.5. R1, R2 and R3; pairs of lists of all tags, in methods 1 and 2 and every zone, on all stations, with fields that are
     refused and D and F cases that are dropped."""
     r1, r2, r3 = (answers(fields + [h('030008')]) for fields in m.offices_worked())
     assert [b''.join(x) for x in (r1, r2, r3)] == R_OUT
@@ -535,7 +557,7 @@ def long_fields():
 POINTS = {'1_worked_exchange_p2': lambda: P2_IN, '2_each_refusal': refusals, '3_refusal_orders': orders, '4_p1_to_p10': frames_by_hand,
           '5_methods_zones_live_options': every_setting, '6_groups': groups, '7_long_fields': long_fields,
           '8_ice': ice, '9_fluid': fluid, '10_pair': pair, '11_straining': straining, '12_held': held,
-          '13_offices': offices, '14_names': names}
+          '13_offices': offices, '14_names': names, '15_alternative': alternative}
 BUFFER = 65536  # what `frames` reads in one turn, at most
 
 
@@ -557,6 +579,8 @@ MORE.update({'13_R%d' % n: (b''.join(fields) + h('030008'), out) for n, (fields,
 MORE['14_names_worked'] = m.NAMES_FILE, b''.join(a for _, a in m.NAMES_WORKED)
 MORE['14_names_worked_with_the_last_byte'] = m.NAMES_FILE + b'X', b''.join(a for _, a in m.NAMES_WORKED[:-1]) + h('800000')
 MORE['14_names_worked_with_a_long_length'] = m.LONG_FILE + P2_IN, h('800000 81000103')
+MORE['15_3_before_16_cut'] = h('010003030000 080001'), h('800000 81000103')
+MORE['15_3_before_16_long'] = h('010003030000 08EA61') + P2_IN, h('800000 81000103')
 NAMES = list(POINTS) + ['2_' + k for k in CUT] + list(MORE)
 
 

@@ -9,7 +9,7 @@ import held
 import make
 import model as m
 from held import Engine
-from model import D, F
+from model import D, F, refused
 
 WRONG = {}  # error -> an engine that makes it
 wrong = functools.partial(held.wrong, table=WRONG)
@@ -19,10 +19,6 @@ BY_PRESENCE = '07 is refused with 13 where the next station has no capacities'
 
 def after(station):
     return (station + 1) % 16
-
-
-def refused(number):
-    return bytes([0x81, 0, 1, number])
 
 
 @wrong('the last case acts with its effects at the next station')

@@ -10,14 +10,16 @@ import struct
 
 D, F, HP, HV, L, LR, S, R, W, E, FA, DI, WI, T = range(1, 15)
 
-# SCOPE 3.2 and 3.3, column by column: D F L roof snow-only W E H. 'f' is the live option's factor.
+# SCOPE 3.2, 3.3 and 3.10, column by column: D F L roof snow-only W E H; rows 51 to 59 in 21,000ths. A pair is the factor with live option 0
+# and the one with 1.
+REDUCED = 1000, 500
 PLAIN = {
     1: dict(D=1400, F=1400),
     2: dict(D=1200, F=1200, L=1600, roof=500, H=1600),
-    3: dict(D=1200, F=1200, L='f', roof=1600, H=1600),
+    3: dict(D=1200, F=1200, L=REDUCED, roof=1600, H=1600),
     4: dict(D=1200, F=1200, roof=1600, W=500, H=1600),
-    5: dict(D=1200, F=1200, L='f', roof=500, W=1000, H=1600),
-    6: dict(D=1200, F=1200, L='f', snow=200, E=1000, H=1600),
+    5: dict(D=1200, F=1200, L=REDUCED, roof=500, W=1000, H=1600),
+    6: dict(D=1200, F=1200, L=REDUCED, snow=200, E=1000, H=1600),
     7: dict(D=900, W=1000, H=1600),
     8: dict(D=900, F=900, E=1000, H=1600),
     21: dict(D=1000, F=1000),
@@ -30,6 +32,15 @@ PLAIN = {
     28: dict(D=1000, F=1000, L=750, snow=750, E=525, H=1000),
     29: dict(D=600, W=600, H=1000),
     30: dict(D=600, F=600, E=700, H=1000),
+    51: dict(D=21000, F=21000, L=21000, roof=21000, H=21000),
+    52: dict(D=21000, F=21000, L=21000, W=(12600, 16380), H=21000),
+    53: dict(D=14000, F=21000, L=21000, W=(12600, 16380), H=21000),
+    54: dict(D=21000, F=21000, L=21000, snow=10500, W=(12600, 16380), H=21000),
+    55: dict(D=14000, F=21000, L=21000, snow=10500, W=(12600, 16380), H=21000),
+    56: dict(D=21000, F=21000, L=21000, snow=21000, W=(6300, 8190), H=21000),
+    57: dict(D=14000, F=21000, L=21000, snow=21000, W=(6300, 8190), H=21000),
+    58: dict(D=21000, F=21000, L=21000, snow=21000, E=15000, H=21000),
+    59: dict(D=18900, F=21000, E=15000, H=21000),
 }
 # SCOPE 3.4: an ice row is a plain row without some columns and with others.
 ICE = {
@@ -52,12 +63,14 @@ def rows(method, zone, ice=0):
         if zone == 2:
             out[11] = dict(PLAIN[5], W=500, Fa=1000)
             out[12] = dict(PLAIN[7], W=500, Fa=1000)
-    else:
+    elif method == 2:
         out = {r: dict(PLAIN[r]) for r in range(21, 31)}
         first, fa = {1: (31, 1500), 2: (36, 750)}.get(zone, (0, 0))
         if first:
             for k in range(5):
                 out[first + k] = dict(PLAIN[25 + k], E=0, Fa=fa)
+    else:
+        out = {r: dict(PLAIN[r]) for r in range(51, 60)}
     for r, (of, without, added) in ICE.items():
         if ice and of in out:
             out[r] = {**{c: x for c, x in PLAIN[of].items() if c not in without}, **added}
@@ -71,13 +84,18 @@ def column_factor(cols, kind, live):
         f = cols.get('roof', 0) or cols.get('snow', 0)
     else:
         f = cols.get({D: 'D', F: 'F', HP: 'H', HV: 'H', L: 'L', W: 'W', E: 'E', FA: 'Fa', DI: 'Di', WI: 'Wi'}[kind], 0)
-    if f == 'f':
-        f = 500 if live else 1000
-    return f
+    return f[live] if isinstance(f, tuple) else f
 
 
-# SCOPE 3.9: the straining factor is the sheet's, within these limits by method, and T has it in every row but these two.
-STRAINING = {1: (1000, 2000), 2: (750, 1000)}
+# SCOPE 2.2: the zones of each method, and the methods in which the structure may be subject to ice.
+ZONES = {1: (0, 1, 2), 2: (0, 1, 2), 3: (0,)}
+WITH_ICE = (1, 2)
+# SCOPE 1.3: the number that stands for a load factor of 1.
+UNIT = {1: 1000, 2: 1000, 3: 21000}
+# SCOPE 4.3: the low factor of Hp. Method 3 has none.
+LOW = {1: 900, 2: 600}
+# SCOPE 3.9: the straining factor is the sheet's, in thousandths, within these limits by method, and T has it in every row but these two.
+STRAINING = {1: (1000, 2000), 2: (750, 1000), 3: (750, 1000)}
 WITHOUT_T = (1, 21)
 # SCOPE 4.2: the kinds of which at most one case acts, by their group.
 GROUPS = {LR: 'roof', S: 'roof', R: 'roof', W: 'W', E: 'E', FA: 'Fa', DI: 'Di', WI: 'Wi'}
@@ -92,12 +110,12 @@ class Sheet:
 
     def factor(self, row, cols, kind):
         if kind == T:
-            return 0 if row in WITHOUT_T else self.straining
+            return 0 if row in WITHOUT_T else self.straining * UNIT[self.method] // 1000
         return column_factor(cols, kind, self.live)
 
     def combos(self):
         """Every admissible combination: (row, {case: factor}, acting mask, low mask), by building them."""
-        low = 900 if self.method == 1 else 600
+        low = [LOW[self.method]] if self.method in LOW else []
         for row, cols in rows(self.method, self.zone, self.ice).items():
             choices, fluid = [], ()
             groups = {g: [] for g in GROUPS.values()}
@@ -110,7 +128,7 @@ class Sheet:
                 elif k == F:
                     fluid += ((c, f, False),)
                 elif k == HP:
-                    choices.append([((c, f, False),), ((c, low, True),)])
+                    choices.append([((c, f, False),)] + [((c, x, True),) for x in low])
                 elif k in (L, HV, T):
                     choices.append([(), ((c, f, False),)])
                 else:
@@ -138,7 +156,12 @@ class Sheet:
             n, y, z = (abs(sum(f * self.eff(c, station)[k] for c, f, _ in t)) for k in range(3))
             best.append((n * yc * zc + y * nc * zc + z * nc * yc, r, a, l))
         hi = max(b[0] for b in best)
-        return rng.choice([b for b in best if b[0] == hi]), 1000 * nc * yc * zc
+        return rng.choice([b for b in best if b[0] == hi]), self.denominator(station)
+
+    def denominator(self, station):
+        """That of a utilisation, SCOPE 4.5."""
+        nc, yc, zc = self.cap[station]
+        return UNIT[self.method] * nc * yc * zc
 
     def turned(self):
         """The sheet with the sign of every effect turned, SCOPE 4.7."""
@@ -179,7 +202,7 @@ def refusal(s, b):
         return 2
     d = b[3:3 + n]
     checks = {
-        1: lambda: [4 * (d[0] not in (1, 2)), 4 * (d[1] > 1), 4 * (d[2] > 2)],
+        1: lambda: [4 * (d[0] not in ZONES), 4 * (d[1] > 1), 4 * (d[2] not in ZONES.get(d[0], ()))],
         2: lambda: [5 * (d[0] > 31), 7 * (not 1 <= d[1] <= 14), 11 * (d[0] in s.kind)],
         3: lambda: [5 * (d[0] > 31), 6 * (d[1] > 15)] + [9 * (abs(e) > 10000) for e in struct.unpack('>3h', d[2:])]
         + [12 * (d[0] not in s.kind)],
@@ -187,18 +210,28 @@ def refusal(s, b):
         5: lambda: [6 * (d[0] > 15)] + [10 * (not 1 <= c <= 10000) for c in struct.unpack('>3H', d[1:])],
         6: lambda: [6 * (d[0] > 15), 8 * (d[1] > 2)],
         7: lambda: [6 * (d[0] > 15), 13 * (d[0] not in s.cap)],
-        8: lambda: [4 * (d[0] > 1)],
+        8: lambda: [16 * (s.method not in WITH_ICE), 4 * (d[0] > 1)],
         9: lambda: [15 * (not STRAINING[s.method][0] <= d[0] << 8 | d[1] <= STRAINING[s.method][1])],
         NAME: lambda: [5 * (d[0] > 31)],
     }
     return next((x for x in checks[tag]() if x), 0)
 
 
+ACCEPTED = bytes([0x80, 0, 0])
+
+
+def refused(number):
+    return bytes([0x81, 0, 1, number])
+
+
 def serve(s, b, rng):
     """The new sheet and the answer."""
     no = refusal(s, b)
-    if no:
-        return s, bytes([0x81, 0, 1, no])
+    return (s, refused(no)) if no else done(s, b, rng)
+
+
+def done(s, b, rng):
+    """The new sheet and the answer for a field that is not refused."""
     tag, d = b[0], b[3:]
     if tag == 1:
         s = Sheet(*d[:3])
@@ -223,7 +256,7 @@ def serve(s, b, rng):
     else:
         (num, r, a, l), den = s.utilisation(d[0], rng)
         return s, bytes([0x87, 0, 26]) + struct.pack('>qqBBII', num, den, int(num <= den), r, a, l)
-    return s, bytes([0x80, 0, 0])
+    return s, ACCEPTED
 
 
 def whole_fields(file):
@@ -477,16 +510,94 @@ PAIRS_WORKED = [
     ([(D, 100), (T, -30), (T, 50)], dict(straining=2000), (220000, 30000), (-30000, -220000)),
     ([(T, 100), (T, -40)], dict(method=2, straining=750), (75000, -30000), (30000, -75000)),
     ([(FA, 10), (W, 100), (T, 7)], dict(zone=1, straining=1500), (130500, 0), (0, -130500)),
+    ([(D, 100), (L, 50), (W, -200), (W, 80)], dict(method=3), (4158000, -1120000), (1120000, -4158000)),
+    ([(W, 100), (HP, -50), (T, 8)], dict(method=3, live=1, straining=875), (735000, -1050000), (1050000, -735000)),
     # equal cases, of which any may be named
     ([(S, 100), (R, 100), (W, -70), (W, -70)], dict(), (160000, -70000), (70000, -160000)),
     # effects at their limits
     ([(D, 10000), (W, -10000)], dict(), (14000000, -1000000), (1000000, -14000000)),
 ]
 
+# The rows of method 3, those that have D in full, and those with two thirds of it.
+ALTERNATIVE = range(51, 60)
+FULL_DEAD = (51, 52, 54, 56, 58)
+TWO_THIRDS = (53, 55, 57)
+# SCOPE 11.8: cases, settings but for the method, maximum, minimum, and every row that reaches each.
+ALTERNATIVE_WORKED = [
+    ([(D, 100), (L, 50), (LR, 30)], dict(), 3780000, 1400000, [51], TWO_THIRDS),
+    ([(D, 100), (L, 50), (W, 100)], dict(), 4410000, 1400000, [52, 54], TWO_THIRDS),
+    ([(D, 100), (L, 50), (W, 100)], dict(live=1), 4788000, 1400000, [52, 54], TWO_THIRDS),
+    ([(D, -100), (W, 100)], dict(), -140000, -2100000, [53, 55], FULL_DEAD),
+    ([(D, -100), (W, 100)], dict(live=1), 238000, -2100000, [53, 55], FULL_DEAD),
+    ([(D, 100), (L, 50), (W, 100), (S, 40)], dict(), 4830000, 1400000, [54], TWO_THIRDS),
+    ([(D, -100), (W, 100), (S, 40)], dict(), 280000, -2100000, [55], FULL_DEAD),
+    ([(D, 100), (W, 20), (S, 100)], dict(), 4326000, 1400000, [56], TWO_THIRDS),
+    ([(D, 100), (W, 20), (S, 100)], dict(live=1), 4363800, 1400000, [56], TWO_THIRDS),
+    ([(D, -100), (W, 20), (S, 100)], dict(), 826000, -2100000, [57], FULL_DEAD),
+    ([(D, 100), (S, 20), (E, 60)], dict(), 3420000, 1400000, [58], TWO_THIRDS),
+    ([(D, -100), (E, 100)], dict(), -390000, -2100000, [59], FULL_DEAD),
+    ([(D, -200), (L, 10), (E, 100)], dict(), -2280000, -4200000, [59], FULL_DEAD),
+    ([(D, -100), (F, 50), (E, 100)], dict(), 660000, -2100000, [59], FULL_DEAD),
+    ([(D, -100), (F, 50), (W, 100)], dict(), 910000, -2100000, [53, 55], FULL_DEAD),
+    ([(F, -50), (W, 100)], dict(), 1260000, -1050000, range(52, 56), ALTERNATIVE),
+    ([(D, 100), (L, 50)], dict(live=1), 3150000, 1400000, FULL_DEAD, TWO_THIRDS),
+    ([(LR, 100), (W, 100)], dict(), 2100000, 0, [51], ALTERNATIVE),
+    ([(W, 100), (HP, -50)], dict(), 210000, -1050000, range(52, 56), ALTERNATIVE),
+    ([(HV, 50), (E, 100)], dict(), 2550000, 0, [58, 59], ALTERNATIVE),
+    ([(W, 100), (HV, -50)], dict(), 1260000, -1050000, range(52, 56), ALTERNATIVE),
+    ([(T, 100)], dict(), 2100000, 0, ALTERNATIVE, ALTERNATIVE),
+    ([(T, 100)], dict(straining=750), 1575000, 0, ALTERNATIVE, ALTERNATIVE),
+    ([(D, 10), (FA, 100), (DI, 100), (WI, 100)], dict(), 210000, 140000, FULL_DEAD, TWO_THIRDS),
+    ([(D, 100), (L, 50), (W, -200), (W, 80)], dict(), 4158000, -1120000, [52, 54], [53, 55]),
+    # the rest is not in SCOPE: the other sides of Hp and Hv, T with another factor, kinds without a factor in each row
+    ([(HP, 50), (W, -100), (T, -30)], dict(live=1, straining=875), 1050000, -1139250, ALTERNATIVE, range(52, 56)),
+    ([(W, 100), (E, 100)], dict(), 1500000, 0, [58, 59], ALTERNATIVE),
+    ([(LR, 100), (E, 100)], dict(), 2100000, 0, [51], ALTERNATIVE),
+    ([(R, -100), (W, -100), (S, -40)], dict(live=1), 0, -2100000, ALTERNATIVE, [51]),
+    ([(FA, 100), (DI, -100), (WI, 100)], dict(), 0, 0, ALTERNATIVE, ALTERNATIVE),
+]
+# SCOPE 11.8: fields on a sheet of method 3, one after the other, with their answers. The last three are a tag 01, and another with a tag 08.
+ALTERNATIVE_ANSWERS = [tuple(map(bytes.fromhex, pair)) for pair in (
+    ('08 00 01 00', '81 00 01 10'), ('08 00 01 01', '81 00 01 10'), ('08 00 01 02', '81 00 01 10'), ('08 00 02 00 00', '81 00 01 02'),
+    ('09 00 02 02 ED', '81 00 01 0F'), ('09 00 02 03 E9', '81 00 01 0F'), ('09 00 02 02 EE', '80 00 00'), ('09 00 02 03 E8', '80 00 00'),
+    ('01 00 03 03 00 01', '81 00 01 04'), ('01 00 03 03 01 02', '81 00 01 04'), ('01 00 03 03 02 00', '81 00 01 04'),
+    ('01 00 03 04 00 00', '81 00 01 04'), ('01 00 03 03 01 00', '80 00 00'), ('01 00 03 01 00 01', '80 00 00'), ('08 00 01 01', '80 00 00'))]
+# More fields that are refused in method 3, and the number of each.
+ALTERNATIVE_REFUSED = [
+    (f(8, 255), 16), (f(8), 2), (f(8, 2, 0), 2), (f(8, bytes(300)), 2), (f(9, word(1500)), 15), (f(9, word(2000)), 15), (f(9, word(0)), 15),
+    (f(9, word(15750)), 15), (f(9, word(21000)), 15), (f(9, word(65535)), 15), (f(9, word(750), 0), 2), (f(1, 3, 1, 1), 4), (f(1, 3, 0, 2), 4),
+    (f(1, 3, 0, 3), 4), (f(1, 3, 0, 255), 4), (f(1, 3, 255, 0), 4), (f(1, 4, 1, 0), 4), (f(1, 255, 0, 0), 4), (f(1, 3, 0), 2),
+    (f(1, 3, 0, 1, 0), 2),
+]
+# Utilisations in method 3 worked by hand: cases, settings but for the method, and Nc, numerator and denominator, My and Mz having capacities
+# of 10. Each passes at the first Nc, where it is 1, and fails at the second, one less.
+ALTERNATIVE_UTILISATIONS = [
+    ([(D, 100)], dict(), (100, 210000000, 210000000), (99, 210000000, 207900000)),
+    ([(W, 100)], dict(), (60, 126000000, 126000000), (59, 126000000, 123900000)),
+    ([(W, -100)], dict(live=1), (78, 163800000, 163800000), (77, 163800000, 161700000)),
+    ([(E, -7)], dict(), (5, 10500000, 10500000), (4, 10500000, 8400000)),
+    ([(T, 80)], dict(straining=875), (70, 147000000, 147000000), (69, 147000000, 144900000)),
+    ([(HP, -50), (T, 20)], dict(straining=750), (50, 105000000, 105000000), (49, 105000000, 102900000)),
+]
+
 
 def on_n(case, n):
     return f(3, case, 0, effects(n, 0, 0))
 
+
+# A list of method 3 in steps, each with a look at N of station 0 to follow: D and F cases dropped, set again and replaced. Fields, the maximum
+# and the minimum, each with every row that reaches it.
+ALTERNATIVE_HELD = [
+    ([f(1, 3, 0, 0), f(2, 0, D), on_n(0, 100), f(2, 1, D), on_n(1, 40), f(2, 2, F), on_n(2, 30), f(2, 3, W), on_n(3, -200)],
+     (3570000, FULL_DEAD), (-560000, [53, 55])),
+    ([f(4, 0)], (1470000, FULL_DEAD), (-1960000, [53, 55])),
+    ([on_n(2, -60)], (840000, FULL_DEAD), (-3220000, [53, 55])),
+    ([on_n(2, 10001)], (840000, FULL_DEAD), (-3220000, [53, 55])),
+    ([f(4, 2)], (840000, FULL_DEAD), (-1960000, [53, 55])),
+    ([f(2, 2, E), on_n(2, -200)], (840000, FULL_DEAD), (-2244000, [59])),
+    ([f(4, 1)], (0, ALTERNATIVE), (-3000000, [58, 59])),
+    ([f(2, 0, D)], (0, ALTERNATIVE), (-3000000, [58, 59])),
+]
 
 # SCOPE 11.5: lists in steps, each with a look at N of station 0 to follow: fields, the maximum and the minimum, each with its row and its
 # acting cases; None for both where several combinations reach it.
@@ -532,6 +643,12 @@ def capacity(rng):
     return rng.choice([1, 10000, rng.randint(1, 10000), rng.randint(1, 300)])
 
 
+def random_settings(rng):
+    """A method, a live option and a zone that the method has."""
+    method = rng.choice(list(ZONES))
+    return method, rng.randint(0, 1), rng.choice(ZONES[method])
+
+
 def straining_factor(rng):
     """One for tag 09; by the method it may be refused."""
     return rng.choice([1000, 2000, 750, rng.randint(1000, 2000), rng.randint(750, 1000), rng.randint(700, 2100)])
@@ -563,7 +680,7 @@ def showing(seed, ice=0):
 
 
 BAD = [f(0x7F), f(0), f(10, 0), f(8), f(8, 2), f(8, 1, 1), f(8, 255), f(9, 3), f(9, word(749)), f(9, word(2001)), f(9, word(0)), f(9, word(65535)),
-       f(9, word(0), 0), f(4, 0, 0), f(1, 3, 0, 0), f(1, 0, 0, 0), f(1, 1, 2, 0), f(1, 2, 0, 3), f(4, 32), f(7, 16), f(6, 16, 3), f(6, 0, 3), f(2, 0, 15), f(2, 32, 0), f(2, 31, 0), f(3, 0, 0, effects(10001, 0, 0)), f(3, 0, 0, effects(0, -10001, 0)),
+       f(9, word(0), 0), f(4, 0, 0), f(1, 4, 0, 0), f(1, 0, 0, 0), f(1, 1, 2, 0), f(1, 2, 0, 3), f(4, 32), f(7, 16), f(6, 16, 3), f(6, 0, 3), f(2, 0, 15), f(2, 32, 0), f(2, 31, 0), f(3, 0, 0, effects(10001, 0, 0)), f(3, 0, 0, effects(0, -10001, 0)),
        f(3, 0, 16, effects(0, 0, 10001)), f(3, 32, 16, effects(0, 0, 0)), f(3, 0, 0, effects(0, 0, -32768)), f(5, 0, caps(0, 1, 1)),
        f(5, 0, caps(1, 10001, 1)), f(5, 0, caps(1, 1, 65535)), f(5, 16, caps(0, 0, 0)), f(6, 0), f(7), f(3, 0, 0), f(2, 0, 1, 1),
        f(0x86, 0), f(0xFF, 0, 0)]
@@ -602,7 +719,7 @@ def edits(rng, filled, st, bad):
     return out
 
 
-def generate(rng, looks=149):
+def generate(rng, looks=149, methods=(1, 2)):
     out = []
     bad = itertools.cycle(BAD)
     for fields, _, _ in worked():
@@ -614,7 +731,8 @@ def generate(rng, looks=149):
     seen = 12
     turn = 0
     while seen < looks:
-        method, live, zone = turn % 2 + 1, turn // 2 % 2, turn // 4 % 3
+        method, live = methods[turn % len(methods)], turn // 2 % 2
+        zone = ZONES[method][turn // 4 % len(ZONES[method])]
         turn += 1
         out += [f(1, method, live, zone)] + [f(8, 1)] * (turn // 12 % 2) + [f(9, word(straining_factor(rng)))] * (turn % 3 > 0)
         filled = {}
@@ -647,7 +765,7 @@ def generate(rng, looks=149):
 
 def before_any_settings():
     """Fields for a sheet that no tag 01 has set: method 1, live option 0, zone 0, ice off, straining factor 1000. Option 1 would halve L
-    in row 3, zone 1 or 2 would let Fa act, ice would let Di and Wi act, another factor would show on T, and method 2 has other rows."""
+    in row 3, zone 1 or 2 would let Fa act, ice would let Di and Wi act, another factor would show on T, and methods 2 and 3 have other rows."""
     out = [f(6, 0, 0), f(7, 0)]
     for c, (k, e) in enumerate([(D, (10, -20, 0)), (L, (300, 50, -7)), (LR, (200, 40, 0)), (FA, (500, -900, 30)), (T, (20, -30, 0)),
                                 (DI, (900, 800, -60)), (WI, (-700, -600, 50))]):
@@ -786,6 +904,77 @@ def straining_utilisations():
     return out
 
 
+def alternative_sheets():
+    """ALTERNATIVE_WORKED as fields, each with its look."""
+    return [sheet(cases, method=3, **how) + [f(6, 0, 0)] for cases, how, *_ in ALTERNATIVE_WORKED]
+
+
+def alternative_answers():
+    """ALTERNATIVE_REFUSED and ALTERNATIVE_ANSWERS as fields, on a sheet of method 3. A look after each shows that it stays, but for the factor
+    of T where a tag 09 is accepted."""
+    made = [f(1, 3, 0, 0), f(2, 0, D), f(2, 1, W), f(2, 2, T), f(2, 3, DI), f(5, 0, caps(270, 90, 70))]
+    made += [f(3, c, 0, effects(*e)) for c, e in enumerate([(100, -40, 7), (-300, 80, 11), (60, 20, -9), (500, 400, 300)])]
+    looks = [f(6, 0, 0), f(6, 0, 1), f(7, 0)]
+    stay = [b for b, _ in ALTERNATIVE_REFUSED] + [b for b, _ in ALTERNATIVE_ANSWERS[:-3]]
+    out = made + looks + [x for n, b in enumerate(stay) for x in (b, looks[n % 3])]
+    for start, *then in ALTERNATIVE_ANSWERS[-3:-2], ALTERNATIVE_ANSWERS[-2:]:
+        out += [start[0]] + made[1:] + [b for b, _ in then] + looks
+    return out
+
+
+def alternative_utilisations():
+    """ALTERNATIVE_UTILISATIONS as fields."""
+    looks = lambda *tried: [b for nc, _, _ in tried for b in (f(5, 0, caps(nc, 10, 10)), f(7, 0))]
+    return [b for cases, how, *tried in ALTERNATIVE_UTILISATIONS for b in sheet(cases, method=3, **how) + looks(*tried)]
+
+
+def alternative_switch():
+    """The same cases in each method, one after the other: a tag 01 leaves nothing of the method before, and one that is refused leaves all of
+    it. Then a saved sheet of method 3, read on another one."""
+    looks = [f(6, 0, k) for k in range(3)] + [f(7, 0)]
+    made = []
+    for c, k, e in ((0, D, (100, -40, 7)), (1, HP, (-35, 80, 11)), (2, W, (-60, 55, -20)), (3, T, (60, 20, -9)), (30, WI, (33, -5, 2)),
+                    (31, L, (20, 30, 15))):
+        made += [f(2, c, k), f(3, c, 0, effects(*e))]
+    made.append(f(5, 0, caps(270, 190, 70)))
+    out = [f(1, 1, 1, 1), f(8, 1), f(9, word(1500))] + made + looks
+    out += [f(1, 3, 0, 1), f(6, 0, 0), f(1, 3, 1, 0)] + made + looks + [f(9, word(875))] + looks[2:] + [f(8, 1), f(6, 0, 1)]
+    out += [f(1, 2, 1, 2), f(6, 0, 0), f(9, word(750))] + made + looks + [f(1, 4, 0, 0), f(8, 1)] + looks[2:]
+    out += [f(1, 3, 0, 0)] + made + looks + [f(9, word(999)), f(1, 3, 0, 2), f(7, 0), f(1, 1, 0, 0)] + made + looks[2:]
+    s = Sheet(3, 1, 0)
+    s.straining, s.kind, s.cap = 750, {3: HP, 7: T, 31: W}, {0: (90, 80, 70)}
+    s.effect = {(3, 0): (-100, 0, 9), (7, 0): (50, 60, 70), (31, 0): (0, 0, -20), (31, 5): (0, 0, 0)}
+    assert s.saved().startswith(bytes.fromhex('010003030100 09000202EE 0200020303 0300080300FF9C00000009 020002070E'))
+    again = fields_of(s.saved())
+    return out + again + looks + [f(1, 2, 0, 1), f(8, 1), f(9, word(800))] + again + looks
+
+
+# Seeds of sheets of method 3 that, with the other lists on it, show any factor of a row that is wrong by 1 (methods.py). Found by a search.
+SHOWING_ALTERNATIVE = [257, 2424, 1698, 106, 1034]
+
+
+def alternative_showing(seed):
+    """A sheet of method 3 with seven cases, and its looks."""
+    rng, station = random.Random(seed), seed % 16
+    out = sheet([], method=3, live=rng.randint(0, 1), straining=rng.choice([750, 875, 1000]))
+    for c, k in enumerate(rng.sample([k for k in range(D, T + 1) if k not in (FA, DI, WI)], 7)):
+        e = [rng.choice([-1, 1]) * rng.choice([10, 30, 100, 200, 500, 1000, rng.randint(1, 1000)]) for _ in range(3)]
+        out += [f(2, c, k), f(3, c, station, effects(*e))]
+    out.append(f(5, station, caps(*(rng.randint(100, 2000) for _ in range(3)))))
+    return out + [f(6, station, k) for k in range(3)] + [f(7, station)]
+
+
+def alternative_held():
+    """ALTERNATIVE_HELD as fields, each step with its look."""
+    return [b for step, _, _ in ALTERNATIVE_HELD for b in step + [f(6, 0, 0)]]
+
+
+def alternative():
+    """Lists on method 3 (SCOPE 3.10), on sheets that are small enough to enumerate."""
+    sheets = [b for fields in alternative_sheets() for b in fields] + [b for seed in SHOWING_ALTERNATIVE for b in alternative_showing(seed)]
+    return sheets + alternative_answers() + alternative_utilisations() + alternative_switch() + alternative_held()
+
+
 def held_worked():
     """HELD_WORKED as fields, each step with its look."""
     return [[b for step, _, _ in steps for b in step + [f(6, 0, 0)]] for steps in HELD_WORKED]
@@ -807,7 +996,7 @@ REFUSED_TOO = [
     (f(3, 1, 14, effects(-10001, 600, 300)), 9), (f(3, 30, 15, effects(7, 32767, 7)), 9), (f(3, 7, 14, effects(1, 1, 1)), 12),
     (f(3, 1, 255, effects(90, 80, 70)), 6), (f(3, 255, 14, effects(90, 80, 70)), 5), (f(4, 32), 5), (f(4, 7), 12), (f(2, 1, D), 11),
     (f(2, 31, L), 11), (f(2, 6, 15), 7), (f(2, 32, D), 5), (f(3, 0, 15, effects(90, 80, 70), 0), 2), (f(3, 0, 15, effects(90, 80, 70)[:5]), 2),
-    (f(4), 2), (f(2, 6), 2), (f(1, 1, 0), 2), (f(1, 1, 0, 0, 0), 2), (f(1, 3, 0, 0), 4), (f(1, 2, 2, 0), 4), (f(8, 2), 4), (f(9, word(0)), 15),
+    (f(4), 2), (f(2, 6), 2), (f(1, 1, 0), 2), (f(1, 1, 0, 0, 0), 2), (f(1, 4, 0, 0), 4), (f(1, 2, 2, 0), 4), (f(8, 2), 4), (f(9, word(0)), 15),
     (f(5, 15, caps(1, 1, 0)), 10), (f(6, 16, 0), 6), (f(7, 13), 13), (f(0x0A, 0), 1),
 ]
 
@@ -1083,12 +1272,16 @@ def late_names():
     return [name(0, 'too late'), name(1, 'too late'), name(29, 'too late'), name(31, 'too late')]
 
 
-def saved_after(edits):
-    """The fields of the saved form of the sheet that these edits make."""
+def sheet_after(edits):
     s = Sheet()
     for b in edits:
         s, _ = serve(s, b, None)
-    return fields_of(s.saved())
+    return s
+
+
+def saved_after(edits):
+    """The fields of the saved form of the sheet that these edits make."""
+    return fields_of(sheet_after(edits).saved())
 
 
 def fields_of(b):
@@ -1186,6 +1379,32 @@ def check_straining():
         assert found == ((hi, set(rows_hi)), (lo, set(rows_lo))), (cases, how, found)
 
 
+def check_alternative():
+    """SCOPE 11.8: the sheets of method 3 give the numbers worked by hand, in these rows and with no case at the low factor; the fields on
+    such a sheet have these answers, and the utilisations are these."""
+    for fields, (cases, how, hi, lo, rows_hi, rows_lo) in zip(alternative_sheets(), ALTERNATIVE_WORKED):
+        s = sheet_after(fields[:-1])
+        found = rows_reaching(s, 1), rows_reaching(s, -1)
+        assert found == ((hi, set(rows_hi)), (lo, set(rows_lo))), (cases, how, found)
+        assert {row for row, _, _, _ in s.combos()} == set(ALTERNATIVE) and not any(low for _, _, _, low in s.combos())
+    s = Sheet(3)
+    for b, answer in ALTERNATIVE_ANSWERS[:-3] + [(b, refused(number)) for b, number in ALTERNATIVE_REFUSED] + ALTERNATIVE_ANSWERS[-3:]:
+        s, a = serve(s, b, None)
+        assert a == answer, (b, a)
+    for cases, how, *tried in ALTERNATIVE_UTILISATIONS:
+        s = sheet_after(sheet(cases, method=3, **how))
+        for (nc, *want), verdict in zip(tried, (1, 0)):
+            s.cap[0] = nc, 10, 10
+            (numerator, *_), denominator = s.utilisation(0, random)
+            assert [numerator, denominator] == want and (numerator <= denominator) == verdict, (cases, how, nc, numerator, denominator)
+    s = Sheet()
+    for step, high, low in ALTERNATIVE_HELD:
+        for b in step:
+            s, _ = serve(s, b, None)
+        found = rows_reaching(s, 1), rows_reaching(s, -1)
+        assert found == tuple((number, set(in_rows)) for number, in_rows in (high, low)), (step, found)
+
+
 def combinations_reaching(s, sign):
     """The greatest N at station 0 (sign 1) or the least (-1), the row and the acting cases, None for both where several combinations reach it."""
     every = [(sign * sum(fa * s.eff(c, 0)[0] for c, fa, _ in t), r, a) for r, t, a, _ in s.combos()]
@@ -1228,7 +1447,8 @@ def readings(rng):
     fluid = [b for fields in fluid_sheets() for b in fields] + fluid_rows() + fluid_utilisations()
     straining = [b for fields in straining_sheets() for b in fields] + straining_set() + straining_utilisations()
     groups = together(settings=[(1, 1), (2, 1), (2, 2)], sets=TOGETHER[4:])
-    fields = before_any_settings() + BAD + generate(rng) + groups + saved_forms() + ice + fluid + straining + offices() + names() + held()
+    fields = before_any_settings() + BAD + generate(rng) + groups + saved_forms() + ice + fluid + straining + alternative()
+    fields += offices() + names() + held()
     return fields + long_fields() + late_names() + [bytes.fromhex('01000301')]
 
 
@@ -1244,6 +1464,7 @@ def main():
     here = os.path.dirname(os.path.abspath(__file__))
     check_fluid()
     check_straining()
+    check_alternative()
     check_held()
     check_names()
     rng = seeded()
@@ -1260,7 +1481,7 @@ def main():
         o.write(raw)
     tags = [a[0] for a in answers]
     print(len(fields), 'readings', len(raw), 'bytes', {hex(t): tags.count(t) for t in sorted(set(tags))},
-          'refusals', {n: sum(1 for a in answers if a[0] == 0x81 and a[3] == n) for n in range(1, 16)})
+          'refusals', {n: sum(1 for a in answers if a[0] == 0x81 and a[3] == n) for n in range(1, 17)})
 
 
 if __name__ == '__main__':

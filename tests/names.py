@@ -11,17 +11,12 @@ import drawing
 import held
 import make
 import model as m
-from held import Engine, difference
-from model import D, NAME, NAME_LENGTHS, f, name
+from held import Engine, difference, saved_otherwise
+from model import ACCEPTED, D, NAME, NAME_LENGTHS, f, name, refused
 
 WRONG = {}  # error -> an engine that makes it
 WRONG_READERS = {}  # error -> a reader that makes it
 wrong = functools.partial(held.wrong, table=WRONG)
-TAKEN = b'\x80\0\0'
-
-
-def refused(number):
-    return bytes([0x81, 0, 1, number])
 
 
 def is_tag_60(b):
@@ -29,20 +24,13 @@ def is_tag_60(b):
     return b[0] == NAME and 4 <= len(b) <= 3 + m.LONGEST
 
 
-class Naming(Engine):
-    """An engine that also says what it saves."""
-
-    def saved(self):
-        return self.sheet.saved()
-
-
 def numbered(error):
     """Adds an engine that gives another answer to some tag 60s: by the length of the body, the case and the sheet. None leaves it."""
     def add(answer_to):
         def read(self, b):
             answer = answer_to(len(b) - 3, b[3], self.sheet) if is_tag_60(b) else None
-            return Naming.read(self, b) if answer is None else answer
-        wrong(error, Naming)(read)
+            return Engine.read(self, b) if answer is None else answer
+        wrong(error)(read)
     return add
 
 
@@ -62,7 +50,7 @@ for taken in (1, 26, 27, 255, 256):
     @numbered('a length of %d is accepted' % taken)
     def answer_to(length, case, sheet, taken=taken):
         if length == taken and case <= 31:
-            return TAKEN
+            return ACCEPTED
 
 for left in (2, 3, 24, 25):
     @numbered('a length of %d is refused' % left)
@@ -71,27 +59,27 @@ for left in (2, 3, 24, 25):
             return refused(2)
 
 
-@wrong('a length of 0 is accepted', Naming)
+@wrong('a length of 0 is accepted')
 def read(self, b):
-    return TAKEN if b == f(NAME) else Naming.read(self, b)
+    return ACCEPTED if b == f(NAME) else Engine.read(self, b)
 
 
 @numbered('of the length only the low byte counts')
 def answer_to(length, case, sheet):
     if length % 256 in NAME_LENGTHS and case <= 31:
-        return TAKEN
+        return ACCEPTED
 
 
 @numbered('the bytes of the length are taken the other way round')
 def answer_to(length, case, sheet):
     if length % 256 << 8 | length >> 8 in NAME_LENGTHS and case <= 31:
-        return TAKEN
+        return ACCEPTED
 
 
 @numbered('case 32 is accepted')
 def answer_to(length, case, sheet):
     if length in NAME_LENGTHS and case == 32:
-        return TAKEN
+        return ACCEPTED
 
 
 @numbered('case 31 is refused')
@@ -103,13 +91,13 @@ def answer_to(length, case, sheet):
 @numbered('of the case only the low bits count')
 def answer_to(length, case, sheet):
     if length in NAME_LENGTHS:
-        return TAKEN
+        return ACCEPTED
 
 
 @numbered('a case above 127 is accepted')
 def answer_to(length, case, sheet):
     if length in NAME_LENGTHS and case > 127:
-        return TAKEN
+        return ACCEPTED
 
 
 @numbered('the case is looked at before the length')
@@ -124,19 +112,19 @@ def answer_to(length, case, sheet):
         return refused(2)
 
 
-@wrong('tag 60 is unknown', Naming)
+@wrong('tag 60 is unknown')
 def read(self, b):
-    return refused(1) if b[0] == NAME else Naming.read(self, b)
+    return refused(1) if b[0] == NAME else Engine.read(self, b)
 
 
-@wrong('tag 3C is taken for tag 60', Naming)
+@wrong('tag 3C is taken for tag 60')
 def read(self, b):
-    return Naming.read(self, bytes([NAME if b[0] == 0x3C else b[0]]) + b[1:])
+    return Engine.read(self, bytes([NAME if b[0] == 0x3C else b[0]]) + b[1:])
 
 
-@wrong('tags 61 to 6F are taken for tag 60', Naming)
+@wrong('tags 61 to 6F are taken for tag 60')
 def read(self, b):
-    return Naming.read(self, bytes([NAME if b[0] >> 4 == 6 else b[0]]) + b[1:])
+    return Engine.read(self, bytes([NAME if b[0] >> 4 == 6 else b[0]]) + b[1:])
 
 
 ACTING = set()  # the errors of engines that do something with a tag 60
@@ -148,15 +136,15 @@ def acting(error, refused_too=False):
         def read(self, b):
             if is_tag_60(b) and (refused_too or m.is_name(b)):
                 act(self, b[3] % 32, b)
-            return Naming.read(self, b)
-        wrong(error, Naming)(read)
+            return Engine.read(self, b)
+        wrong(error)(read)
         ACTING.add(error)
     return add
 
 
 def emptied(self, case):
     if case in self.sheet.kind:
-        Naming.read(self, f(4, case))
+        Engine.read(self, f(4, case))
 
 
 @acting('a name empties its place')
@@ -168,7 +156,7 @@ def act(self, case, b):
 def act(self, case, b):
     for st in held.STATIONS:
         if case in self.sheet.kind:
-            Naming.read(self, f(3, case, st, bytes(6)))
+            Engine.read(self, f(3, case, st, bytes(6)))
 
 
 @acting('a name sets the sums of D and F to 0')
@@ -183,7 +171,7 @@ def act(self, case, b):
 
 @acting('a name starts a fresh sheet')
 def act(self, case, b):
-    Naming.read(self, f(1, 1, 0, 0))
+    Engine.read(self, f(1, 1, 0, 0))
 
 
 @acting('a name clears the capacities')
@@ -204,7 +192,7 @@ def act(self, case, b):
 @acting('the bytes of a name are read as a field')
 def act(self, case, b):
     if m.refusal(self.sheet, b[4:]) != 3:
-        Naming.read(self, b[4:])
+        Engine.read(self, b[4:])
 
 
 @acting('a tag 60 of a wrong length empties its place', True)
@@ -219,7 +207,7 @@ def act(self, case, b):
         emptied(self, case)
 
 
-class Keeping(Naming):
+class Keeping(Engine):
     """An engine that keeps the names, and so may save them."""
 
     def __init__(self):
@@ -527,17 +515,6 @@ def reader_caught(error, reader, stored):
     return bool(ok)
 
 
-def saved_otherwise(engine, readings):
-    """The number of the first reading after which something else is saved than is due, from 1 on, or nothing."""
-    sheet = m.Sheet()
-    for n, (b, _) in enumerate(readings, 1):
-        engine.read(b)
-        if b[0] not in (6, 7):
-            sheet, _ = m.serve(sheet, b, None)
-        if engine.saved() != sheet.saved():
-            return n
-
-
 @functools.cache
 def files_for_both():
     """Files with tag 60s in them, to be answered as without."""
@@ -553,21 +530,16 @@ def parted(engine):
 
 
 def caught(error, engine, lists):
-    """Whether the lists of `frames` and those of `recheck_run` each catch the engine, with its line printed."""
-    find = saved_otherwise if error in SAVED else difference
-    found = [find(engine(), readings) for readings in lists]
+    """Whether the lists of `frames` and those of `recheck_run` each catch the engine, and SCOPE 9.7 where it should, with its line printed."""
     by_itself = parted(engine) == (error in ACTING)
     if not by_itself:
         print('FAILED: %s: the file without its names' % error)
-    ok = None not in found and by_itself
-    told = ['not caught' if n is None else 'caught at reading %d' % n for n in found]
-    print('%s: wrong: %s: %s of `frames`, %s of `recheck_run`' % ('ok' if ok else 'FAILED', error, *told), flush=True)
-    return ok
+    return held.caught(error, engine, lists, saved_otherwise if error in SAVED else difference) and by_itself
 
 
 def taken_right(lists):
-    found = [find(Naming(), readings) for find in (difference, saved_otherwise) for readings in lists]
-    ok = found == [None] * 4 and not parted(Naming)
+    found = [find(Engine(), readings) for find in (difference, saved_otherwise) for readings in lists]
+    ok = found == [None] * 4 and not parted(Engine)
     print('%s: names taken, and none saved: %d and %d readings' % ('ok' if ok else 'FAILED', *map(len, lists)), flush=True)
     return ok
 

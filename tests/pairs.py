@@ -7,7 +7,7 @@ import random
 import checks
 import model as m
 from checks import TESTS, Failed, expect, run
-from model import D, STRAINING, T, effects, f
+from model import D, STRAINING, T, WITH_ICE, effects, f
 
 SHEETS = 200
 
@@ -15,8 +15,9 @@ SHEETS = 200
 def random_sheet(rng, most, count):
     """Up to so many load cases of so many kinds, with effects at three stations, two of which have capacities."""
     kinds = rng.sample(range(D, T + 1), count)
-    s = m.Sheet(rng.randint(1, 2), rng.randint(0, 1), rng.randint(0, 2))
-    s.ice, s.straining, stations = rng.randint(0, 1), rng.randint(*STRAINING[s.method]), rng.sample(range(16), 3)
+    s = m.Sheet(*m.random_settings(rng))
+    s.ice, s.straining = rng.randint(0, 1) * (s.method in WITH_ICE), rng.randint(*STRAINING[s.method])
+    stations = rng.sample(range(16), 3)
     s.kind = {c: rng.choice(kinds) for c in rng.sample(range(32), rng.randint(0, most))}
     s.effect = {(c, st): tuple(m.value(rng) for _ in range(3)) for c in s.kind for st in stations}
     s.cap = {st: tuple(m.capacity(rng) for _ in range(3)) for st in stations[:2]}

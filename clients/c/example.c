@@ -45,10 +45,12 @@ static void show_name(uint8_t load_case)
         printf(" case %d", load_case);
 }
 
-/* A factored effect is in thousandths of a tenth of a kN. In the set of acting cases, case k is bit k of 4 bytes, the high one first. */
+/* The factored effect by the unit of its row is in tenths of a kN. In the set of acting cases, case k is bit k of 4 bytes, the high one
+   first. */
 static void show(const char *name, const uint8_t *extreme)
 {
-    printf("%s N: %.2f kN, row %d, acting:", name, (double)number(extreme) / 10000, extreme[8]);
+    double tenths = (double)number(extreme) / frames_unit(extreme[8]);
+    printf("%s N: %.2f kN, row %d, acting:", name, tenths / 10, extreme[8]);
     for (uint8_t k = 0; k < 32; k++)
         if (extreme[12 - k / 8] >> k % 8 & 1)
             show_name(k);

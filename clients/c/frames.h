@@ -1,8 +1,8 @@
 /* Governing load combinations of a frame sheet: the boundary of the proved library libframes_c.a.
 
-   A sheet is passed as its saved bytes, edits and questions as fields; docs/FIELDS.md has both. No pointer is null, also where
-   its length is 0. `output` and `saved` overlap nothing else that is passed. The functions keep no state and may be called from
-   several threads. */
+   A sheet is passed as its saved bytes, edits and questions as fields; docs/FIELDS.md has both. Method 1 is strength design, 2 allowable
+   stress design, 3 the alternative combinations of the IBC. No pointer is null, also where its length is 0. `output` and `saved` overlap
+   nothing else that is passed. The functions keep no state and may be called from several threads. */
 #ifndef FRAMES_H
 #define FRAMES_H
 
@@ -48,6 +48,13 @@ frames_ran frames_run(const uint8_t *state, size_t state_len,
                       uint8_t *output, size_t output_len,
                       uint8_t *saved, size_t saved_len);
 
+/* What stands for a load factor of 1 in a row: a factored effect divided by it has the unit of the effects, tenths of a kN or of a kN m.
+   It is 1000 in methods 1 and 2, and 21,000 in method 3, which has the rows from 51 on. */
+static inline int frames_unit(uint8_t row)
+{
+    return row < 51 ? 1000 : 21000;
+}
+
 typedef struct {
     size_t from; /* where the name begins in the file; 0 where there is none */
     size_t len;  /* its bytes, 1 to 24; 0 where there is no name */
@@ -67,7 +74,7 @@ static inline const char *frames_refusal_text(uint8_t refusal)
     case 1: return "unknown tag";
     case 2: return "the length is not the tag's";
     case 3: return "the field is cut short or too long";
-    case 4: return "no such method, live option, zone or ice switch";
+    case 4: return "no such method, live option, zone or ice switch, or a flood zone in method 3";
     case 5: return "the case is not 0 to 31";
     case 6: return "the station is not 0 to 15";
     case 7: return "the kind is not 1 to 14";
@@ -78,7 +85,8 @@ static inline const char *frames_refusal_text(uint8_t refusal)
     case 12: return "the place holds no load case";
     case 13: return "the station has no capacities";
     case 14: return "the output is too short";
-    case 15: return "the straining factor is not 1000 to 2000 in method 1 or 750 to 1000 in method 2";
+    case 15: return "the straining factor is not 1000 to 2000 in method 1 or 750 to 1000 in methods 2 and 3";
+    case 16: return "the tag is not for method 3";
     default: return NULL;
     }
 }

@@ -2,8 +2,8 @@
 
 A disjunct is an open row with three weights; its objective is the weighted sum of the three factored effects. One binary variable
 for each disjunct chooses it, and each has its own binary variables: one for each case that may act or not by itself, one for all F
-cases together, one for each acting Hp case, which may take the low factor. Cases that always act need no variable: they count in the
-disjunct's coefficient.
+cases together, one for each acting Hp case where it may take the low factor: in method 3 there is none. Cases that always act need no
+variable: they count in the disjunct's coefficient.
 
 The program is exact. One disjunct is chosen, and a variable of another is 0, since each is bounded by its disjunct's variable.
 Within the chosen disjunct the constraints are the rules on acting, no more and no less. So the 0/1 points are the pairs of a
@@ -65,7 +65,7 @@ def program_of(sheet: Sheet, weightings: list[Weights]) -> Program:
 
 def add_disjunct(program: Program, row: int, weights: Weights) -> str:
     """Adds the disjunct's variables and constraints; answers the name of the variable that chooses the disjunct."""
-    sheet, factors = program.sheet, open_rows(program.sheet)[row]
+    sheet, factors, low = program.sheet, open_rows(program.sheet)[row], low_factor(program.sheet)
     present = {k: case for k, case in sheet.cases.items() if factors[case.kind] != 0}
     always = sum(factors[c.kind] * weighted(c, weights) for c in present.values() if c.kind in ALWAYS_ACTING)
     disjunct = program.add(Variable(row, frozenset(), False, always))
@@ -74,15 +74,15 @@ def add_disjunct(program: Program, row: int, weights: Weights) -> str:
         effect = sum(factors[present[k].kind] * weighted(present[k], weights) for k in cases)
         return program.add(Variable(row, frozenset(cases), False, effect))
 
-    def at_low(k: int) -> str:
-        lowered = low_factor(sheet) - factors[Kind.HP]
+    def at_low(k: int, low: int) -> str:
+        lowered = low - factors[Kind.HP]
         return program.add(Variable(row, frozenset({k}), True, lowered * weighted(present[k], weights)))
 
     for k, case in present.items():
         if case.kind in ANY_SUBSET:
             program.constraints.append(f"{acts(k)} - {disjunct} <= 0")
-        elif case.kind == Kind.HP:
-            program.constraints.append(f"{at_low(k)} - {disjunct} <= 0")
+        elif case.kind == Kind.HP and low is not None:
+            program.constraints.append(f"{at_low(k, low)} - {disjunct} <= 0")
     fluid = [k for k, case in present.items() if case.kind in ALL_OR_NONE]
     if fluid:
         program.constraints.append(f"{acts(*fluid)} - {disjunct} <= 0")
@@ -113,8 +113,9 @@ def tolerance(program: Program) -> int:
     So every basis has determinant 1 or -1: vertices are 0/1, and reduced costs are integers in the program's unit. On near ties
     GLPK was seen to find a reduced cost of 1e-10 of the greatest coefficient, CBC a smaller one. Below 1e9 a reduced cost other
     than 0 is at least ten times that, so no better vertex is missed and the tolerance is 0. So it is for every extreme: factors are
-    multiples of 25, and 32 cases * 10,000 * 2000 / 25 is 2.6e7. From 1e9 on, two points differ in at most 66 variables, each
-    wrong by less than 1e-9 of the greatest coefficient: together less than 1e-7 of it.
+    multiples of 25, and 32 cases * 10,000 * 2000 / 25 is 2.6e7; in method 3 they are multiples of 10, with straining factors that are
+    multiples of 50, and 32 cases * 10,000 * 21,000 / 10 is 6.7e8. From 1e9 on, two points differ in at most 66 variables, each wrong by
+    less than 1e-9 of the greatest coefficient: together less than 1e-7 of it.
     """
     greatest = greatest_coefficient(program)
     return 0 if greatest < 10**9 else greatest * unit(program) // 10**7

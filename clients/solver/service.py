@@ -5,7 +5,7 @@ from collections.abc import Iterator
 from dataclasses import dataclass
 from pathlib import Path
 
-from standard import Combination, Sheet
+from standard import WITH_ICE, Combination, Sheet
 
 
 class Unexpected(Exception):
@@ -35,8 +35,9 @@ class Answers:
 
 
 def fields_of(sheet: Sheet) -> list[bytes]:
-    """The fields that make the sheet: settings, ice, the straining factor, cases, effects and capacities."""
-    made = [field(1, bytes([sheet.method, sheet.live, sheet.zone])), field(8, bytes([sheet.ice])), field(9, numbers((sheet.straining,)))]
+    """The fields that make the sheet: settings, ice where the method has it, the straining factor, cases, effects and capacities."""
+    ice = [field(8, bytes([sheet.ice]))] if sheet.method in WITH_ICE else []
+    made = [field(1, bytes([sheet.method, sheet.live, sheet.zone])), *ice, field(9, numbers((sheet.straining,)))]
     for k, case in sheet.cases.items():
         made.append(field(2, bytes([k, case.kind])))
         made.append(field(3, bytes([k, sheet.station]) + numbers(case.effects)))

@@ -2,7 +2,7 @@
 
 from random import Random
 
-from standard import ALLOWABLE, STRAINING, STRENGTH, Case, Kind, Sheet
+from standard import STRAINING, WITH_ICE, ZONES, Case, Kind, Sheet
 
 
 def random_sheets(count: int, seed: int) -> list[Sheet]:
@@ -15,12 +15,12 @@ def random_sheet(rng: Random, places: int) -> Sheet:
     kinds = rng.sample(list(Kind), rng.choice((2, 4, 7, len(Kind))))
     largest = rng.choice((3, 50, 1_000, 10_000))
     capacity = rng.choice((10, 1_000, 10_000))
-    method = rng.choice((STRENGTH, ALLOWABLE))
+    method = rng.choice(list(ZONES))
     return Sheet(
         method=method,
         live=rng.randrange(2),
-        zone=rng.randrange(3),
-        ice=rng.randrange(2),
+        zone=rng.choice(ZONES[method]),
+        ice=rng.randrange(2) if method in WITH_ICE else 0,
         straining=random_straining(rng, method),
         cases={k: Case(rng.choice(kinds), random_effects(rng, largest)) for k in sorted(rng.sample(range(32), places))},
         station=rng.randrange(16),
@@ -29,9 +29,9 @@ def random_sheet(rng: Random, places: int) -> Sheet:
 
 
 def random_straining(rng: Random, method: int) -> int:
-    """1000, a limit or a multiple of 25 between the limits."""
+    """1000, a limit or a multiple of 50 between the limits."""
     least, most = STRAINING[method]
-    return rng.choice((1000, least, most, rng.randrange(least, most + 1, 25)))
+    return rng.choice((1000, least, most, rng.randrange(least, most + 1, 50)))
 
 
 def random_effects(rng: Random, largest: int) -> tuple[int, int, int]:

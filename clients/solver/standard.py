@@ -1,6 +1,6 @@
 """The load combinations of docs/SCOPE.md, sections 3 and 4: rows, admissible combinations, factored effects, utilisation.
 
-Written apart from the crates, in exact integers. Factors are in thousandths.
+Written apart from the crates, in exact integers. Factors are in thousandths, those of method 3 in 21,000ths.
 """
 
 from dataclasses import dataclass
@@ -24,7 +24,7 @@ class Kind(IntEnum):
     T = 14
 
 
-STRENGTH, ALLOWABLE = 1, 2
+STRENGTH, ALLOWABLE, ALTERNATIVE = 1, 2, 3  # the methods; the last is 1605.3.2 of the IBC
 ALWAYS_ACTING = frozenset({Kind.D, Kind.HP})
 ALL_OR_NONE = frozenset({Kind.F})
 ANY_SUBSET = frozenset({Kind.L, Kind.HV, Kind.T})
@@ -33,7 +33,11 @@ AT_MOST_ONE = (
     frozenset({Kind.WI}),
 )
 
-STRAINING = {STRENGTH: (1000, 2000), ALLOWABLE: (750, 1000)}  # the least and the greatest straining factor
+ZONES = {STRENGTH: (0, 1, 2), ALLOWABLE: (0, 1, 2), ALTERNATIVE: (0,)}
+WITH_ICE = frozenset({STRENGTH, ALLOWABLE})  # the methods that have a setting of ice
+STRAINING = {STRENGTH: (1000, 2000), ALLOWABLE: (750, 1000), ALTERNATIVE: (750, 1000)}  # the least and the greatest, in thousandths
+UNIT = {STRENGTH: 1000, ALLOWABLE: 1000, ALTERNATIVE: 21000}  # what stands for a load factor of 1
+LOW_FACTOR = {STRENGTH: 900, ALLOWABLE: 600}  # of Hp; method 3 has none
 ROWS_WITHOUT_T = frozenset({1, 21})
 
 Factors = dict[Kind, int]
@@ -88,6 +92,21 @@ def plain_rows(sheet: Sheet) -> dict[int, Factors]:
             29: line(600, 0, w=600, h=1000),
             30: line(600, 600, e=700, h=1000),
         }
+    if sheet.method == ALTERNATIVE:
+        # 0.6 ω W; with live option 1 allowable stresses were increased, and ω is 1.3
+        wind = 16380 if sheet.live else 12600
+        full, two_thirds = 21000, 14000
+        return {
+            51: line(full, 21000, l=21000, roof=21000, h=21000),
+            52: line(full, 21000, l=21000, w=wind, h=21000),
+            53: line(two_thirds, 21000, l=21000, w=wind, h=21000),
+            54: line(full, 21000, l=21000, snow=10500, w=wind, h=21000),
+            55: line(two_thirds, 21000, l=21000, snow=10500, w=wind, h=21000),
+            56: line(full, 21000, l=21000, snow=21000, w=wind // 2, h=21000),
+            57: line(two_thirds, 21000, l=21000, snow=21000, w=wind // 2, h=21000),
+            58: line(full, 21000, l=21000, snow=21000, e=15000, h=21000),
+            59: line(18900, 21000, e=15000, h=21000),
+        }
     live = 500 if sheet.live else 1000
     return {
         1: line(1400, 1400),
@@ -135,11 +154,12 @@ def snow_alone(factor: int) -> Factors:
 def open_rows(sheet: Sheet) -> dict[int, Factors]:
     plain = plain_rows(sheet)
     rows = plain | flood_rows(sheet, plain) | ice_rows(sheet, plain)
-    return {row: factors | {Kind.T: 0 if row in ROWS_WITHOUT_T else sheet.straining} for row, factors in rows.items()}
+    straining = sheet.straining * UNIT[sheet.method] // 1000
+    return {row: factors | {Kind.T: 0 if row in ROWS_WITHOUT_T else straining} for row, factors in rows.items()}
 
 
-def low_factor(sheet: Sheet) -> int:
-    return 900 if sheet.method == STRENGTH else 600
+def low_factor(sheet: Sheet) -> int | None:
+    return LOW_FACTOR.get(sheet.method)
 
 
 def inadmissible(sheet: Sheet, combination: Combination) -> str | None:
@@ -162,15 +182,17 @@ def inadmissible(sheet: Sheet, combination: Combination) -> str | None:
             return f"two cases of {'/'.join(kind.name for kind in sorted(group))} act"
     if any(k not in combination.acting or sheet.cases[k].kind != Kind.HP for k in combination.low):
         return "the low set holds another case than an acting Hp"
+    if combination.low and low_factor(sheet) is None:
+        return "there is no low factor"
     return None
 
 
 def factored_effects(sheet: Sheet, combination: Combination) -> tuple[int, int, int]:
-    row = open_rows(sheet)[combination.row]
+    row, low = open_rows(sheet)[combination.row], low_factor(sheet)
     sums = [0, 0, 0]
     for k in combination.acting:
         case = sheet.cases[k]
-        factor = low_factor(sheet) if k in combination.low else row[case.kind]
+        factor = low if low is not None and k in combination.low else row[case.kind]
         for component in range(3):
             sums[component] += factor * case.effects[component]
     return sums[0], sums[1], sums[2]
@@ -185,4 +207,4 @@ def utilisation(sheet: Sheet, combination: Combination) -> tuple[int, int]:
     """Numerator and denominator, without reduction."""
     effects = factored_effects(sheet, combination)
     n, y, z = sheet.capacities
-    return sum(abs(e) * p for e, p in zip(effects, capacity_products(sheet))), 1000 * n * y * z
+    return sum(abs(e) * p for e, p in zip(effects, capacity_products(sheet))), UNIT[sheet.method] * n * y * z

@@ -33,13 +33,13 @@ fn main() -> Result<(), Refusal> {
 
     let show = |what: String, row: Row, acting: u32, low: u32| {
         println!("{what}");
-        let formula = row.formula(settings.live, sheet.straining());
+        let formula = row.formula(settings, sheet.straining());
         println!("    {}: {formula}", row.name());
         println!("    acting: {}; low factor: {}", names(acting), names(low));
     };
     let axial = sheet.extremes(FOOT, Component::N)?;
     for (name, x) in [("greatest", axial.maximum), ("least", axial.minimum)] {
-        let kn = x.value as f64 / 10_000.0;
+        let kn = x.effect() / 10.0;
         show(format!("{name} N: {kn:.2} kN"), x.row, x.acting, x.low);
     }
     let u = sheet.utilisation(FOOT)?;

@@ -4,14 +4,22 @@ use crate::{Refusal, Row};
 /// A governing number of a component and a combination that reaches it.
 #[derive(Clone, Copy, Debug, PartialEq, Eq, Hash)]
 pub struct Extreme {
-    /// The factored effect, in thousandths of the effect's unit.
+    /// The factored effect: in thousandths of the effect's unit in methods 1 and 2, in 21,000ths in method 3
+    /// ([`Method::unit`](crate::Method::unit)).
     pub value: i64,
-    /// The load combination of ASCE 7-10.
+    /// The load combination.
     pub row: Row,
     /// The acting cases: case k is bit k.
     pub acting: u32,
     /// The permanent earth pressures at the low factor: case k is bit k.
     pub low: u32,
+}
+
+impl Extreme {
+    /// The factored effect in the unit of the effects, tenths of a kN or of a kN m, as a number to show.
+    pub fn effect(&self) -> f64 {
+        self.value as f64 / f64::from(self.row.method().unit())
+    }
 }
 
 /// The governing numbers of a component.
@@ -28,11 +36,11 @@ pub struct Extremes {
 pub struct Utilisation {
     /// The numerator, not reduced.
     pub numerator: u64,
-    /// The denominator: 1000 times the product of the capacities.
+    /// The denominator: the unit of the method times the product of the capacities.
     pub denominator: u64,
     /// Whether the numerator is at most the denominator.
     pub pass: bool,
-    /// The load combination of ASCE 7-10.
+    /// The load combination.
     pub row: Row,
     /// The acting cases: case k is bit k.
     pub acting: u32,

@@ -5,11 +5,23 @@ use crate::CaseName;
 #[derive(Clone, Copy, Debug, Default, PartialEq, Eq, Hash)]
 #[repr(u8)]
 pub enum Method {
-    /// Strength design, rows 1 to 15.
+    /// Strength design of ASCE 7-10, rows 1 to 15.
     #[default]
     Strength = 1,
-    /// Allowable stress design, rows 21 to 43.
+    /// Allowable stress design of ASCE 7-10, rows 21 to 43.
     Allowable = 2,
+    /// Allowable stress design by the alternative basic combinations of the IBC (1605.3.2), rows 51 to 59.
+    Alternative = 3,
+}
+
+impl Method {
+    /// What stands for a load factor of 1: a factored effect divided by it has the unit of the effects.
+    pub const fn unit(self) -> u16 {
+        match self {
+            Method::Strength | Method::Allowable => 1000,
+            Method::Alternative => 21_000,
+        }
+    }
 }
 
 /// The factor on L in the strength combinations where the standard lets it be halved (its exception on L).
@@ -21,6 +33,17 @@ pub enum LiveOption {
     Full = 0,
     /// 0.5.
     Half = 1,
+}
+
+/// Whether the allowable stresses that the capacities stand for were increased, as the IBC permits with its alternative combinations.
+#[derive(Clone, Copy, Debug, Default, PartialEq, Eq, Hash)]
+#[repr(u8)]
+pub enum Stresses {
+    /// ω is 1.0: the factors on W are 0.6 and 0.3.
+    #[default]
+    NotIncreased = 0,
+    /// ω is 1.3: the factors on W are 0.78 and 0.39. The IBC has this for wind loads by chapters 26 to 31 of ASCE 7.
+    Increased = 1,
 }
 
 /// The flood zone, which opens further combinations.
@@ -36,16 +59,88 @@ pub enum Zone {
     Noncoastal = 2,
 }
 
-/// What a sheet sets for all its combinations when it starts. The default is that of a fresh sheet. Two more are set
-/// apart: ice ([`Field::SetIce`]), off at the start, and the straining factor ([`Field::SetStraining`]), 1000 at the start.
-#[derive(Clone, Copy, Debug, Default, PartialEq, Eq, Hash)]
-pub struct Settings {
-    /// Strength or allowable stress.
-    pub method: Method,
-    /// The factor on L.
-    pub live: LiveOption,
-    /// The flood zone.
-    pub zone: Zone,
+/// What a sheet sets for all its combinations when it starts: the method, and what goes with it. The default is that of a fresh sheet.
+/// Two more are set apart: ice ([`Field::SetIce`]), off at the start, and the straining factor ([`Field::SetStraining`]), 1000 at the
+/// start.
+#[derive(Clone, Copy, Debug, PartialEq, Eq, Hash)]
+pub enum Settings {
+    /// Strength design.
+    Strength {
+        /// The factor on L.
+        live: LiveOption,
+        /// The flood zone.
+        zone: Zone,
+    },
+    /// Allowable stress design.
+    Allowable {
+        /// Held with the sheet; no combination of this method goes by it.
+        live: LiveOption,
+        /// The flood zone.
+        zone: Zone,
+    },
+    /// The alternative combinations of the IBC, of which none is for flood or ice.
+    Alternative {
+        /// Whether allowable stresses were increased.
+        stresses: Stresses,
+    },
+}
+
+impl Settings {
+    /// A method with the full live load and no flood zone, or with allowable stresses not increased.
+    pub fn new(method: Method) -> Settings {
+        let (live, zone) = (LiveOption::default(), Zone::default());
+        match method {
+            Method::Strength => Settings::Strength { live, zone },
+            Method::Allowable => Settings::Allowable { live, zone },
+            Method::Alternative => Settings::Alternative {
+                stresses: Stresses::default(),
+            },
+        }
+    }
+
+    /// The method.
+    pub fn method(self) -> Method {
+        match self {
+            Settings::Strength { .. } => Method::Strength,
+            Settings::Allowable { .. } => Method::Allowable,
+            Settings::Alternative { .. } => Method::Alternative,
+        }
+    }
+
+    /// The body of tag 01.
+    fn to_bytes(self) -> [u8; 3] {
+        let [option, zone] = match self {
+            Settings::Strength { live, zone } | Settings::Allowable { live, zone } => {
+                [live as u8, zone as u8]
+            }
+            Settings::Alternative { stresses } => [stresses as u8, Zone::NoFlood as u8],
+        };
+        [self.method() as u8, option, zone]
+    }
+
+    fn from_bytes([method, option, zone]: [u8; 3]) -> Option<Settings> {
+        let zone = Zone::from_number(zone)?;
+        Some(match (Method::from_number(method)?, zone) {
+            (Method::Strength, zone) => Settings::Strength {
+                live: LiveOption::from_number(option)?,
+                zone,
+            },
+            (Method::Allowable, zone) => Settings::Allowable {
+                live: LiveOption::from_number(option)?,
+                zone,
+            },
+            (Method::Alternative, Zone::NoFlood) => Settings::Alternative {
+                stresses: Stresses::from_number(option)?,
+            },
+            (Method::Alternative, _) => return None,
+        })
+    }
+}
+
+impl Default for Settings {
+    fn default() -> Settings {
+        Settings::new(Method::default())
+    }
 }
 
 /// The kind of load of a case.
@@ -56,7 +151,8 @@ pub enum Kind {
     Dead = 1,
     /// F, fluid: all cases act together, or none.
     Fluid = 2,
-    /// H that is permanent: each case takes the full or the low factor, whichever governs.
+    /// H that is permanent: each case takes the full or the low factor, whichever governs. The alternative combinations have the full
+    /// one alone.
     EarthPermanent = 3,
     /// H that is not permanent: each case acts or does not.
     EarthOther = 4,
@@ -109,8 +205,9 @@ macro_rules! numbered {
     };
 }
 
-numbered!(Method: Strength Allowable);
+numbered!(Method: Strength Allowable Alternative);
 numbered!(LiveOption: Full Half);
+numbered!(Stresses: NotIncreased Increased);
 numbered!(Zone: NoFlood Coastal Noncoastal);
 numbered!(Kind: Dead Fluid EarthPermanent EarthOther Live RoofLive Snow Rain Wind Earthquake Flood Ice WindOnIce SelfStraining);
 numbered!(Component: N My Mz);
@@ -182,14 +279,14 @@ pub enum Field {
         /// The station, 0 to 15; it must have capacities.
         station: u8,
     },
-    /// Opens the combinations with ice, or closes them.
+    /// Opens the combinations with ice, or closes them; refused among the alternative combinations, which have none.
     SetIce {
         /// Whether they are open.
         on: bool,
     },
     /// Sets the load factor of T for the whole sheet.
     SetStraining {
-        /// In thousandths: 1000 to 2000 in strength design, 750 to 1000 in allowable stress design.
+        /// In thousandths, whatever the method: 1000 to 2000 in strength design, 750 to 1000 in both methods for allowable stress.
         factor: u16,
     },
     /// Names a load case for drawings. A sheet holds no names and stays as it is; [`case_name`](crate::case_name) finds them in a file.
@@ -230,11 +327,9 @@ impl Field {
     /// The field of a tag other than 60.
     fn nameless(tag: u8, body: &[u8]) -> Option<Field> {
         let field = match (tag, body) {
-            (1, &[method, live, zone]) => Field::Start(Settings {
-                method: Method::from_number(method)?,
-                live: LiveOption::from_number(live)?,
-                zone: Zone::from_number(zone)?,
-            }),
+            (1, &[method, option, zone]) => {
+                Field::Start(Settings::from_bytes([method, option, zone])?)
+            }
             (2, &[case, kind]) => Field::AddCase {
                 case,
                 kind: Kind::from_number(kind)?,
@@ -271,7 +366,7 @@ impl Field {
 
     pub(crate) fn encoded(&self) -> Encoded {
         match *self {
-            Field::Start(s) => Encoded::new(1, &[s.method as u8, s.live as u8, s.zone as u8]),
+            Field::Start(settings) => Encoded::new(1, &settings.to_bytes()),
             Field::AddCase { case, kind } => Encoded::new(2, &[case, kind as u8]),
             Field::SetEffects {
                 case,

@@ -1,9 +1,9 @@
 //! Governing load combinations of a frame sheet, from the proved library `frames`.
 //!
 //! A sheet holds load cases with their effects N, My and Mz at stations of a frame. For a station the library finds the greatest
-//! and the least factored effect, and the greatest utilisation, over every admissible combination of ASCE 7-10, and names a
-//! combination that reaches each. In a file of fields it finds the names that drawings print for the cases. This crate passes bytes
-//! to the library and gives its answers types; it decides nothing itself.
+//! and the least factored effect, and the greatest utilisation, over every admissible combination of ASCE 7-10 or of the alternative
+//! ones of the IBC, and names a combination that reaches each. In a file of fields it finds the names that drawings print for the
+//! cases. This crate passes bytes to the library and gives its answers types; it decides nothing itself.
 //!
 //! ```
 //! use frames::{Capacities, Component, Effects, Kind, Settings, Sheet};
@@ -16,6 +16,7 @@
 //! }
 //! let extremes = sheet.extremes(0, Component::N)?;
 //! assert_eq!(extremes.maximum.value, 200_000); // 1.2 D + 1.6 L
+//! assert_eq!(extremes.maximum.effect(), 200.0); // tenths of a kN
 //! assert_eq!(extremes.minimum.value, -110_000); // 0.9 D + 1.0 W
 //! assert_eq!(extremes.minimum.row.name(), "2.3.2-6");
 //! assert_eq!(frames::cases(extremes.minimum.acting).collect::<Vec<_>>(), [0, 2]);
@@ -41,7 +42,9 @@ mod sheet;
 mod wire;
 
 pub use answer::{cases, Answer, Extreme, Extremes, Utilisation};
-pub use field::{Capacities, Component, Effects, Field, Kind, LiveOption, Method, Settings, Zone};
+pub use field::{
+    Capacities, Component, Effects, Field, Kind, LiveOption, Method, Settings, Stresses, Zone,
+};
 pub use name::{case_name, CaseName};
 pub use refusal::Refusal;
 pub use row::Row;

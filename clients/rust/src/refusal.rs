@@ -11,7 +11,7 @@ pub enum Refusal {
     WrongLength = 2,
     /// The header or the body goes past the end, or the length is above 60,000.
     Cut = 3,
-    /// A method, live option, zone or ice switch that there is not.
+    /// A method, live option, zone or ice switch that there is not, or a flood zone in method 3.
     SettingsOutside = 4,
     /// A case above 31.
     CaseOutside = 5,
@@ -35,11 +35,13 @@ pub enum Refusal {
     OutputTooShort = 14,
     /// A straining factor outside the limits of the sheet's method.
     StrainingOutside = 15,
+    /// A tag that method 3 does not have: ice.
+    NotInMethod = 16,
 }
 
 impl Refusal {
     /// Every refusal, by rising number.
-    pub const ALL: [Refusal; 15] = [
+    pub const ALL: [Refusal; 16] = [
         Refusal::UnknownTag,
         Refusal::WrongLength,
         Refusal::Cut,
@@ -55,9 +57,10 @@ impl Refusal {
         Refusal::NoCapacity,
         Refusal::OutputTooShort,
         Refusal::StrainingOutside,
+        Refusal::NotInMethod,
     ];
 
-    /// The library's number, 1 to 15.
+    /// The library's number, 1 to 16.
     pub fn number(self) -> u8 {
         self as u8
     }
@@ -74,7 +77,9 @@ impl Refusal {
             Refusal::UnknownTag => "unknown tag",
             Refusal::WrongLength => "the length is not the tag's",
             Refusal::Cut => "the field is cut short or too long",
-            Refusal::SettingsOutside => "no such method, live option, zone or ice switch",
+            Refusal::SettingsOutside => {
+                "no such method, live option, zone or ice switch, or a flood zone in method 3"
+            }
             Refusal::CaseOutside => "the case is not 0 to 31",
             Refusal::StationOutside => "the station is not 0 to 15",
             Refusal::KindOutside => "the kind is not 1 to 14",
@@ -86,8 +91,9 @@ impl Refusal {
             Refusal::NoCapacity => "the station has no capacities",
             Refusal::OutputTooShort => "the output is too short",
             Refusal::StrainingOutside => {
-                "the straining factor is not 1000 to 2000 in method 1 or 750 to 1000 in method 2"
+                "the straining factor is not 1000 to 2000 in method 1 or 750 to 1000 in methods 2 and 3"
             }
+            Refusal::NotInMethod => "the tag is not for method 3",
         }
     }
 }

@@ -120,13 +120,16 @@ impl Sheet {
     }
 
     /// Opens the combinations with ice, or closes them. A fresh sheet has them closed.
-    pub fn set_ice(&mut self, on: bool) {
-        let set = self.edit(Field::SetIce { on });
-        set.expect("the library has both settings of the switch");
+    ///
+    /// # Errors
+    ///
+    /// [`Refusal::NotInMethod`]: the alternative combinations of the IBC have none with ice, so they are neither opened nor closed.
+    pub fn set_ice(&mut self, on: bool) -> Result<(), Refusal> {
+        self.edit(Field::SetIce { on })
     }
 
     /// Sets the straining factor, the load factor of T in thousandths, for the whole sheet: 1000 to 2000 in strength design, 750 to
-    /// 1000 in allowable stress design. A fresh sheet has 1000. A look goes by the factor in force when it is made.
+    /// 1000 in both methods for allowable stress. A fresh sheet has 1000. A look goes by the factor in force when it is made.
     ///
     /// # Errors
     ///

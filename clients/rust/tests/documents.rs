@@ -11,9 +11,9 @@ mod reference;
 use std::collections::BTreeMap;
 use std::ops::RangeInclusive;
 
-use combination::{low_factor, open_rows};
+use combination::{low_factor, open_rows, unit};
 use frames::bytes::{answer, name_place, run, ANSWER, SAVED};
-use frames::{case_name, Kind, LiveOption, Method, Refusal, Row, Zone};
+use frames::{case_name, Field, Kind, LiveOption, Method, Refusal, Row, Settings, Stresses, Zone};
 
 const FIELDS: &str = include_str!("../../../docs/FIELDS.md");
 const SCOPE: &str = include_str!("../../../docs/SCOPE.md");
@@ -24,11 +24,13 @@ const SYMBOLS: [&str; 14] = [
     "D", "F", "H", "H", "L", "Lr", "S", "R", "W", "E", "Fa", "Di", "Wi", "T",
 ];
 
-/// Straining factors within the limits of each method.
-const STRAINING: [(Method, [u16; 3]); 2] = [
-    (Method::Strength, [1000, 1234, 2000]),
-    (Method::Allowable, [750, 890, 1000]),
-];
+/// Straining factors within the limits of a method.
+fn straining(method: Method) -> [u16; 3] {
+    match method {
+        Method::Strength => [1000, 1234, 2000],
+        Method::Allowable | Method::Alternative => [750, 890, 1000],
+    }
+}
 
 /// The lines of the first table under a heading that start with a number, as their cells.
 fn table<'a>(document: &'a str, heading: &str) -> Vec<Vec<&'a str>> {
@@ -49,10 +51,10 @@ fn row_of(number: &str) -> Row {
     Row::from_number(number.parse().unwrap()).unwrap()
 }
 
-/// The rows of a cell such as `1 to 8, 9, 10`.
+/// The rows of a cell such as `1 to 8, 9, 10`, or of an empty one.
 fn rows_of(cell: &str) -> Vec<Row> {
     let mut rows = Vec::new();
-    for span in cell.split(", ") {
+    for span in cell.split(", ").filter(|span| !span.is_empty()) {
         let (first, last) = span.split_once(" to ").unwrap_or((span, span));
         let span = row_of(first)..=row_of(last);
         rows.extend(Row::ALL.iter().filter(|row| span.contains(row)));
@@ -60,23 +62,31 @@ fn rows_of(cell: &str) -> Vec<Row> {
     rows
 }
 
-fn thousandths(number: &str) -> i64 {
-    (number.parse::<f64>().unwrap() * 1000.0).round() as i64
+/// A number such as `0.75` or `2/3`; none is 1.
+fn number(text: &str) -> f64 {
+    let parsed = |text: &str| text.parse::<f64>().unwrap();
+    match text.split_once('/') {
+        Some((above, below)) => parsed(above) / parsed(below),
+        None if text.is_empty() => 1.0,
+        None => parsed(text),
+    }
 }
 
-/// The factors of a formula in thousandths, by symbol. `0.75(0.6W)` is a product, `0.5(Lr or S or R)` gives each its factor.
-fn factors(formula: &str) -> BTreeMap<&str, i64> {
+/// The factors of a formula in the unit of a method, by symbol. `0.75(0.6W)` and `(2/3)D` are products, `E/1.4` a quotient, and
+/// `0.5(Lr or S or R)` gives each its factor.
+fn factors(formula: &str, method: Method) -> BTreeMap<&str, i64> {
     let mut found = BTreeMap::new();
     for term in formula.split(" + ") {
-        let mut factor = 1000;
+        let mut factor = f64::from(method.unit());
         let words = term.split(['(', ')', ' ']).filter(|word| *word != "or");
         for word in words {
             let letters = word.find(char::is_alphabetic).unwrap_or(word.len());
-            let (number, symbol) = word.split_at(letters);
-            if !number.is_empty() {
-                factor = factor * thousandths(number) / 1000;
-            }
+            let (before, symbol) = word.split_at(letters);
+            factor *= number(before);
+            let (symbol, divisor) = symbol.split_once('/').unwrap_or((symbol, ""));
+            factor /= number(divisor);
             if !symbol.is_empty() {
+                let factor = factor.round() as i64;
                 assert_eq!(found.insert(symbol, factor), None, "{formula}");
             }
         }
@@ -84,34 +94,31 @@ fn factors(formula: &str) -> BTreeMap<&str, i64> {
     found
 }
 
-/// Every choice of the settings but the straining factor, as the sheet of the reference.
-fn settings() -> impl Iterator<Item = (LiveOption, reference::Sheet)> {
+/// Every choice of the settings but the straining factor, with the sheet of the reference. The types have just those that it accepts.
+fn settings() -> impl Iterator<Item = (Settings, reference::Sheet)> {
     let mut all = Vec::new();
-    for method in Method::ALL {
-        for live in LiveOption::ALL {
-            for zone in Zone::ALL {
-                for ice in [false, true] {
-                    let mut sheet = reference::Sheet::fresh();
-                    sheet.method = *method as u8;
-                    sheet.live_option = *live as u8;
-                    sheet.zone = *zone as u8;
-                    sheet.ice = ice;
-                    all.push((*live, sheet));
-                }
-            }
-        }
+    for body in (0..64).map(|n| [n / 16, n / 4 % 4, n % 4]) {
+        let start = [&[1, 0, 3], &body[..]].concat();
+        let sheet = reference::load(&start).ok();
+        let settings = match Field::decode(&start) {
+            Some((Field::Start(settings), _)) => Some(settings),
+            _ => None,
+        };
+        assert_eq!(settings.is_some(), sheet.is_some(), "{body:?}");
+        let iced = [&start[..], &[8, 0, 1, 1]].concat();
+        let sheets = sheet.into_iter().chain(reference::load(&iced));
+        all.extend(settings.into_iter().cycle().zip(sheets));
     }
     all.into_iter()
 }
 
 /// Every choice of the settings, with some straining factors.
-fn strained() -> impl Iterator<Item = (LiveOption, reference::Sheet)> {
-    settings().flat_map(|(live, sheet)| {
-        let (_, factors) = STRAINING[usize::from(sheet.method) - 1];
-        factors.map(|straining| {
+fn strained() -> impl Iterator<Item = (Settings, reference::Sheet)> {
+    settings().flat_map(|(settings, sheet)| {
+        straining(settings.method()).map(|straining| {
             let mut sheet = sheet.clone();
             sheet.straining = straining;
-            (live, sheet)
+            (settings, sheet)
         })
     })
 }
@@ -119,12 +126,14 @@ fn strained() -> impl Iterator<Item = (LiveOption, reference::Sheet)> {
 #[test]
 fn formulas_have_the_factors_of_the_rows() {
     let mut seen = Vec::new();
-    for (live, sheet) in strained() {
+    for (settings, sheet) in strained() {
         for expected in open_rows(&sheet) {
             let row = Row::from_number(expected.number).unwrap();
             seen.push(row);
-            let formula = row.formula(live, sheet.straining);
-            let found = factors(&formula);
+            assert_eq!(row.method(), settings.method());
+            assert_eq!(i64::from(row.method().unit()), unit(&sheet));
+            let formula = row.formula(settings, sheet.straining);
+            let found = factors(&formula, row.method());
             for (kind, symbol) in Kind::ALL.iter().zip(SYMBOLS) {
                 let factor = found.get(symbol).copied().unwrap_or(0);
                 assert_eq!(
@@ -133,9 +142,9 @@ fn formulas_have_the_factors_of_the_rows() {
                     "{symbol} in {formula}"
                 );
             }
-            let low = row.low_term().map(|term| factors(term)["Hp"]);
+            let low = row.low_term().map(|t| factors(t, row.method())["Hp"]);
             let has_low = found.contains_key("H");
-            assert_eq!(low, has_low.then(|| low_factor(&sheet)), "{formula}");
+            assert_eq!(low, low_factor(&sheet).filter(|_| has_low), "{formula}");
         }
     }
     seen.sort();
@@ -148,22 +157,43 @@ fn rows_of_the_fields_document() {
     let rows = table(FIELDS, "\n## Rows\n");
     assert_eq!(rows.len(), Row::ALL.len());
     for (row, cells) in Row::ALL.into_iter().zip(rows) {
-        let [number, name, formula, half, low, open_in] = cells[..] else {
+        let [number, name, formula, option, low, open_in] = cells[..] else {
             panic!("six cells: {cells:?}");
         };
         assert_eq!(row_of(number), row);
         assert_eq!(name, row.name());
         let formula = formula.replace("kT", "1.2T");
-        assert_eq!(formula, row.formula(LiveOption::Full, 1200));
-        let halved = match half {
-            "" => formula.clone(),
-            half => formula.replacen(" L ", &format!(" {half} "), 1),
+        let [first, second] = options(row.method());
+        assert_eq!(formula, row.formula(first, 1200));
+        let changed = |term: &str| match term.trim_start_matches(|c: char| !c.is_alphabetic()) {
+            symbol if !option.is_empty() && option.ends_with(symbol) => option.to_string(),
+            _ => term.to_string(),
         };
-        assert_eq!(halved, row.formula(LiveOption::Half, 1200));
-        assert_eq!(half == "0.5L", halved != formula);
+        let with_option: Vec<String> = formula.split(" + ").map(changed).collect();
+        let with_option = with_option.join(" + ");
+        assert_eq!(with_option, row.formula(second, 1200));
+        assert_eq!(option.is_empty(), with_option == formula);
         assert_eq!(low, row.low_term().unwrap_or(""));
         assert_eq!(open_in, opened_by(row));
     }
+}
+
+/// The settings of a method without a flood zone, with live option 0 and with 1.
+fn options(method: Method) -> [Settings; 2] {
+    let zone = Zone::NoFlood;
+    [0, 1].map(|at| match method {
+        Method::Strength => Settings::Strength {
+            live: LiveOption::ALL[at],
+            zone,
+        },
+        Method::Allowable => Settings::Allowable {
+            live: LiveOption::ALL[at],
+            zone,
+        },
+        Method::Alternative => Settings::Alternative {
+            stresses: Stresses::ALL[at],
+        },
+    })
 }
 
 /// The settings with which a row is open: a method alone, or with a flood zone or ice.
@@ -176,7 +206,7 @@ fn opened_by(row: Row) -> String {
     let (_, first) = &opening[0];
     let all = |same: &dyn Fn(&reference::Sheet) -> bool| opening.iter().all(|(_, s)| same(s));
     assert!(all(&|sheet| sheet.method == first.method));
-    let every = LiveOption::ALL.len() * Zone::ALL.len() * 2;
+    let every = settings().filter(|(_, sheet)| sheet.method == first.method);
     let (also, share) = match (first.zone, all(&|sheet| sheet.ice)) {
         (0, false) => (String::new(), 1),
         (0, true) => (", ice".into(), 2),
@@ -185,25 +215,25 @@ fn opened_by(row: Row) -> String {
             (format!(", zone {zone}"), Zone::ALL.len())
         }
     };
-    assert_eq!(opening.len(), every / share);
+    assert_eq!(opening.len(), every.count() / share);
     format!("method {}{also}", first.method)
 }
 
 #[test]
 fn rows_of_the_scope_document() {
-    let strength = table(SCOPE, "\n### 3.2 ");
-    let allowable = table(SCOPE, "\n### 3.3 ");
-    assert_eq!((strength.len(), allowable.len()), (8, 10));
-    for cells in strength.iter().chain(&allowable) {
+    let tables = ["3.2", "3.3", "3.10"].map(|section| table(SCOPE, &format!("\n### {section} ")));
+    assert_eq!(tables.each_ref().map(Vec::len), [8, 10, 9]);
+    for cells in tables.iter().flatten() {
         let row = row_of(cells[0]);
-        assert_eq!(cells[1], row.name());
-        for live in LiveOption::ALL {
-            let formula = row.formula(*live, 1700);
-            let mut expected = scope_factors(&cells[2..], *live);
+        assert_eq!(row.name(), cells[1]);
+        for (settings, option) in options(row.method()).into_iter().zip(0..) {
+            let formula = row.formula(settings, 1700);
+            let mut expected = scope_factors(&cells[2..], row.method(), option);
             if !rows_of("1, 21").contains(&row) {
-                expected.insert("T", 1700);
+                let factor = 1700 * i64::from(row.method().unit()) / 1000;
+                expected.insert("T", factor);
             }
-            assert_eq!(factors(&formula), expected, "{formula}");
+            assert_eq!(factors(&formula, row.method()), expected, "{formula}");
         }
     }
 }
@@ -214,14 +244,17 @@ fn straining_of_the_scope_document() {
     let (_, section) = SCOPE.split_once("\n### 3.9 ").unwrap();
     let (section, _) = section.split_once("\n## ").unwrap();
     assert!(section.contains("in every row but 1 and 21"));
-    let lines = table(SCOPE, "\n### 3.9 ");
-    assert_eq!(lines.len(), Method::ALL.len());
-    for (method, cells) in Method::ALL.iter().zip(lines) {
-        assert_eq!(cells[0].parse(), Ok(*method as u8));
+    let mut lines = BTreeMap::new();
+    for cells in table(SCOPE, "\n### 3.9 ") {
+        let methods = cells[0].split(", ").map(|n| n.parse().unwrap());
+        lines.extend(methods.map(|method: u8| (method, cells.clone())));
+    }
+    assert!(lines.keys().eq([1, 2, 3].iter()));
+    for (method, cells) in lines {
         let limits: Vec<u16> = cells[1].split(" to ").map(|n| n.parse().unwrap()).collect();
         for factor in 0..=u16::MAX {
             let mut sheet = reference::Sheet::fresh();
-            sheet.method = *method as u8;
+            sheet.method = method;
             let [high, low] = factor.to_be_bytes();
             let accepted = matches!(
                 reference::read(&mut sheet, &[9, 0, 2, high, low]).0,
@@ -232,8 +265,8 @@ fn straining_of_the_scope_document() {
     }
 }
 
-/// The factors of a row of the scope's tables, by symbol.
-fn scope_factors(cells: &[&str], live: LiveOption) -> BTreeMap<&'static str, i64> {
+/// The factors of a row of the scope's tables, by symbol. In method 3 the column of W with live option 1 stands after that of W.
+fn scope_factors(cells: &[&str], method: Method, option: u8) -> BTreeMap<&'static str, i64> {
     let columns: [&[&str]; 7] = [
         &["D"],
         &["F"],
@@ -243,16 +276,21 @@ fn scope_factors(cells: &[&str], live: LiveOption) -> BTreeMap<&'static str, i64
         &["E"],
         &["H"],
     ];
+    let mut cells = cells.to_vec();
+    if method == Method::Alternative {
+        cells.remove(if option == 0 { 5 } else { 4 });
+    }
+    assert_eq!(cells.len(), columns.len());
     let mut found = BTreeMap::new();
     for (cell, symbols) in cells.iter().zip(columns) {
         let (symbols, number) = match cell.strip_prefix("S ") {
             Some(number) => (&["S"][..], number),
             None => (symbols, *cell),
         };
-        let factor = match (number, live) {
+        let factor = match (number, option) {
             ("", _) => continue,
-            ("f", LiveOption::Full) => 1000,
-            ("f", LiveOption::Half) => 500,
+            ("f", 0) => 1000,
+            ("f", _) => 500,
             (number, _) => number.parse().unwrap(),
         };
         found.extend(symbols.iter().map(|symbol| (*symbol, factor)));
@@ -269,16 +307,17 @@ fn flood_and_ice_rows_of_the_scope_document() {
         };
         for (row, plain) in rows_of(rows).into_iter().zip(rows_of(plain_rows)) {
             assert_eq!(row.name(), format!("{item} on {}", plain.name()));
-            for live in LiveOption::ALL {
-                let formula = plain.formula(*live, 1100);
-                let mut expected = factors(&formula);
+            for settings in options(row.method()) {
+                let formula = plain.formula(settings, 1100);
+                let mut expected = factors(&formula, plain.method());
                 for change in changes.split(", ") {
                     match change.split_once(' ').unwrap() {
                         ("no", symbol) => expected.remove(symbol),
                         (symbol, factor) => expected.insert(symbol, factor.parse().unwrap()),
                     };
                 }
-                assert_eq!(factors(&row.formula(*live, 1100)), expected);
+                let formula = row.formula(settings, 1100);
+                assert_eq!(factors(&formula, row.method()), expected);
             }
             seen.push(row);
         }
@@ -289,11 +328,14 @@ fn flood_and_ice_rows_of_the_scope_document() {
 #[test]
 fn open_rows_of_the_scope_document() {
     let lines = table(SCOPE, "\n### 3.7 ");
-    assert_eq!(lines.len(), Method::ALL.len() * Zone::ALL.len());
-    for cells in lines {
+    let mut zones: Vec<_> = settings().map(|(_, s)| (s.method, s.zone)).collect();
+    zones.sort();
+    zones.dedup();
+    assert_eq!(lines.len(), zones.len());
+    for (cells, (method, zone)) in lines.into_iter().zip(zones) {
         let mut sheet = reference::Sheet::fresh();
-        sheet.method = cells[0].parse().unwrap();
-        sheet.zone = cells[1].parse().unwrap();
+        (sheet.method, sheet.zone) = (method, zone);
+        assert_eq!((cells[0].parse(), cells[1].parse()), (Ok(method), Ok(zone)));
         let mut documented = rows_of(cells[2]);
         assert_eq!(documented, rows_open(&sheet));
         sheet.ice = true;
@@ -335,6 +377,24 @@ fn room_to_save_into() {
     assert!(HEADER.contains(&format!("#define FRAMES_SAVED {SAVED}\n")));
     assert!(HEADER.contains(&format!("#define FRAMES_ANSWER {ANSWER}\n")));
     let stated = format!("{},{:03} bytes to save into", SAVED / 1000, SAVED % 1000);
+    assert!(FIELDS.contains(&stated), "{stated}");
+}
+
+/// What stands for a load factor of 1 is the same in this crate, in the C header and in both documents.
+#[test]
+fn unit_of_each_method() {
+    let [strength, allowable, alternative] = [0, 1, 2].map(|at| Method::ALL[at].unit());
+    assert_eq!(strength, allowable);
+    let first = Row::ALL
+        .iter()
+        .find(|row| row.method() == Method::Alternative);
+    let first = first.unwrap().number();
+    let by_row = format!("return row < {first} ? {strength} : {alternative};");
+    assert!(HEADER.contains(&by_row), "{by_row}");
+    let [above, below] = [alternative / 1000, alternative % 1000];
+    let stated = format!("{strength} in\nmethods 1 and 2, {above},{below:03} in method 3");
+    assert!(SCOPE.contains(&stated), "{stated}");
+    let stated = format!("this unit, {strength} or {above},{below:03}, times the three capacities");
     assert!(FIELDS.contains(&stated), "{stated}");
 }
 
@@ -404,6 +464,33 @@ fn worked_exchange_of_the_fields_document() {
     let (section, _) = section.split_once("\n## ").unwrap();
     let (input, expected) = exchange(section);
     assert_eq!(answers_of(&input), expected);
+}
+
+/// SCOPE 11.8: the refusals of method 3, each on a sheet of its own, by the library and by the reference.
+#[test]
+fn refusals_of_method_3_of_the_scope_document() {
+    const HEADING: &str = "\nThe refusals of method 3, after `01 00 03 03 00 00`:\n";
+    let mut compared = 0;
+    for cells in table(SCOPE, HEADING) {
+        // Fields apart from one another, or one after the other.
+        let lists = cells[0].split("`, `");
+        for list in lists.map(|list| list.replace("`, then `", " ")) {
+            let list = [&[1, 0, 3, 3, 0, 0], &bytes_of(&list)[..]].concat();
+            let answered: Vec<u8> = match cells[1].strip_suffix("` twice") {
+                Some(bytes) => bytes_of(bytes).repeat(2),
+                None => bytes_of(cells[1]),
+            };
+            let expected = [&[0x80, 0, 0], &answered[..]].concat();
+            let mut by_reference = Vec::new();
+            reference::read_list(&mut reference::Sheet::fresh(), &list, |_, _, answer| {
+                by_reference.extend(answer.bytes())
+            });
+            assert_eq!(by_reference, expected, "{list:x?}");
+            assert_eq!(answers_of(&list), expected, "{list:x?}");
+            compared += 1;
+        }
+    }
+    assert_eq!(compared, 14);
 }
 
 /// SCOPE 11.5, as one list, and each field on the sheet as it was saved before it.

@@ -1,10 +1,10 @@
-//! The frames worked by hand (SCOPE 11.1), the pair of extremes (SCOPE 4.7), two offices (SCOPE 9.5), names of cases (SCOPE 9.6), every
-//! refusal, what a sheet holds, and saving.
+//! The frames worked by hand (SCOPE 11.1 and 11.8), the pair of extremes (SCOPE 4.7), two offices (SCOPE 9.5), names of cases (SCOPE 9.6),
+//! every refusal, what a sheet holds, and saving.
 
 use frames::bytes::{answer, name_place, run, ANSWER, SAVED};
 use frames::{
     case_name, Answer, Capacities, CaseName, Component, Effects, Extremes, Field, Kind, LiveOption,
-    Method, Refusal, Settings, Sheet, Utilisation, Zone,
+    Method, Refusal, Settings, Sheet, Stresses, Utilisation, Zone,
 };
 
 /// Cases from place 0 on, with effects on N at station 0.
@@ -22,10 +22,8 @@ fn axial(n: i16) -> Effects {
 }
 
 fn zone(zone: Zone) -> Settings {
-    Settings {
-        zone,
-        ..Settings::default()
-    }
+    let live = LiveOption::Full;
+    Settings::Strength { live, zone }
 }
 
 fn extremes(settings: Settings, cases: &[(Kind, i16)]) -> Extremes {
@@ -61,9 +59,9 @@ fn p2_dead_live_and_two_winds() {
 
 #[test]
 fn p3_half_the_live_load() {
-    let settings = Settings {
+    let settings = Settings::Strength {
         live: LiveOption::Half,
-        ..Settings::default()
+        zone: Zone::NoFlood,
     };
     assert_eq!(maximum(settings, &P2), 225_000);
 }
@@ -103,12 +101,8 @@ fn p7_flood() {
 
 #[test]
 fn p8_allowable_stress() {
-    let settings = Settings {
-        method: Method::Allowable,
-        ..Settings::default()
-    };
     let cases = [(Kind::Live, 40), (Kind::Earthquake, 20), (Kind::Snow, 8)];
-    let x = extremes(settings, &cases);
+    let x = extremes(Settings::new(Method::Allowable), &cases);
     assert_eq!((x.maximum.value, x.maximum.row.number()), (46_500, 28));
 }
 
@@ -160,12 +154,8 @@ fn p10_one_of_snow_and_rain() {
 
 /// The settings with ice, and cases on N at station 0.
 fn iced(method: Method, cases: &[(Kind, i16)]) -> Extremes {
-    let settings = Settings {
-        method,
-        ..Settings::default()
-    };
-    let mut sheet = sheet(settings, cases);
-    sheet.set_ice(true);
+    let mut sheet = sheet(Settings::new(method), cases);
+    sheet.set_ice(true).unwrap();
     sheet.extremes(0, Component::N).unwrap()
 }
 
@@ -196,7 +186,7 @@ fn ice_is_switched_and_saved() {
     let mut s = sheet(Settings::default(), &[(Kind::Ice, 7)]);
     assert!(!s.ice());
     let without = s.clone();
-    s.set_ice(true);
+    s.set_ice(true).unwrap();
     assert!(s.ice());
     assert_ne!(s, without);
     assert_eq!(s.save()[..10], [1, 0, 3, 1, 0, 0, 8, 0, 1, 1]);
@@ -206,17 +196,13 @@ fn ice_is_switched_and_saved() {
     let mut fresh = s.clone();
     fresh.run(&[Field::Start(Settings::default())]);
     assert_eq!(fresh, Sheet::default());
-    s.set_ice(false);
+    s.set_ice(false).unwrap();
     assert_eq!(s, without);
 }
 
 /// A sheet with a straining factor, and cases on N at station 0.
 fn strained(method: Method, factor: u16, cases: &[(Kind, i16)]) -> Sheet {
-    let settings = Settings {
-        method,
-        ..Settings::default()
-    };
-    let mut sheet = sheet(settings, cases);
+    let mut sheet = sheet(Settings::new(method), cases);
     sheet.set_straining(factor).unwrap();
     sheet
 }
@@ -267,7 +253,7 @@ fn straining_in_flood_and_ice_rows() {
         (Kind::SelfStraining, 10),
     ];
     let mut s = strained(Method::Allowable, 750, &ice);
-    s.set_ice(true);
+    s.set_ice(true).unwrap();
     let x = s.extremes(0, Component::N).unwrap().maximum;
     assert_eq!((x.value, x.row.number(), x.acting), (177_500, 41, 0b111));
 }
@@ -301,7 +287,7 @@ fn straining_is_set_and_saved() {
     assert_ne!(s, without);
     assert_eq!(s.save()[6..11], [9, 0, 2, 4, 226]);
     assert_eq!(s.save()[11..], without.save()[6..]);
-    s.set_ice(true);
+    s.set_ice(true).unwrap();
     assert_eq!(s.save()[6..15], [8, 0, 1, 1, 9, 0, 2, 4, 226]);
     assert_eq!((s.ice(), s.straining()), (true, 1250));
     assert_eq!(Sheet::load(s.save()).unwrap(), s);
@@ -309,7 +295,7 @@ fn straining_is_set_and_saved() {
     let mut fresh = s.clone();
     fresh.run(&[Field::Start(Settings::default())]);
     assert_eq!(fresh, Sheet::default());
-    s.set_ice(false);
+    s.set_ice(false).unwrap();
     s.set_straining(1000).unwrap();
     assert_eq!(s, without);
 }
@@ -319,6 +305,7 @@ fn limits_of_the_straining_factor() {
     let limits = [
         (Method::Strength, 1000, 2000),
         (Method::Allowable, 750, 1000),
+        (Method::Alternative, 750, 1000),
     ];
     for (method, least, most) in limits {
         let mut s = strained(method, most, &[]);
@@ -333,12 +320,142 @@ fn limits_of_the_straining_factor() {
     }
 }
 
+const ALTERNATIVE: Settings = Settings::Alternative {
+    stresses: Stresses::NotIncreased,
+};
+const INCREASED: Settings = Settings::Alternative {
+    stresses: Stresses::Increased,
+};
+
+// SCOPE 11.8
+#[test]
+fn alternative_combinations() {
+    use Kind::{Dead, EarthOther, Earthquake, Fluid, Live, RoofLive, SelfStraining, Snow, Wind};
+    let all_act = |settings, cases: &[(Kind, i16)], value, rows: &[u8]| {
+        let x = extremes(settings, cases).maximum;
+        assert_eq!((x.value, x.low), (value, 0), "{cases:?}");
+        assert_eq!(x.acting, (1 << cases.len()) - 1, "{cases:?}");
+        assert!(rows.contains(&x.row.number()), "{cases:?}: {:?}", x.row);
+    };
+    let plain = |cases: &[(Kind, i16)], value, rows: &[u8]| {
+        all_act(ALTERNATIVE, cases, value, rows);
+    };
+    let (dead, uplift) = ((Dead, 100), (Dead, -100));
+    let (live, wind, little) = ((Live, 50), (Wind, 100), (Wind, 20));
+    let (snow, much, quake) = ((Snow, 40), (Snow, 100), (Earthquake, 100));
+    plain(&[dead, live, (RoofLive, 30)], 3_780_000, &[51]);
+    plain(&[dead, live, wind], 4_410_000, &[52, 54]);
+    all_act(INCREASED, &[dead, live, wind], 4_788_000, &[52, 54]);
+    plain(&[uplift, wind], -140_000, &[53, 55]);
+    all_act(INCREASED, &[uplift, wind], 238_000, &[53, 55]);
+    plain(&[dead, live, wind, snow], 4_830_000, &[54]);
+    plain(&[uplift, wind, snow], 280_000, &[55]);
+    plain(&[dead, little, much], 4_326_000, &[56]);
+    all_act(INCREASED, &[dead, little, much], 4_363_800, &[56]);
+    plain(&[uplift, little, much], 826_000, &[57]);
+    plain(&[dead, (Snow, 20), (Earthquake, 60)], 3_420_000, &[58]);
+    plain(&[uplift, quake], -390_000, &[59]);
+    plain(&[uplift, (Fluid, 50), quake], 660_000, &[59]);
+    plain(&[(EarthOther, 50), quake], 2_550_000, &[58, 59]);
+    all_act(INCREASED, &[dead, live], 3_150_000, &[51, 52, 54, 56, 58]);
+    assert_eq!(maximum(ALTERNATIVE, &[(RoofLive, 100), wind]), 2_100_000);
+    let closed = [Kind::Flood, Kind::Ice, Kind::WindOnIce].map(|kind| (kind, 100));
+    assert_eq!(maximum(ALTERNATIVE, &closed), 0);
+    let s = strained(Method::Alternative, 750, &[(SelfStraining, 100)]);
+    let x = s.extremes(0, Component::N).unwrap().maximum;
+    assert_eq!((x.value, x.acting), (1_575_000, 1));
+}
+
+#[test]
+fn alternative_combinations_have_no_low_factor() {
+    let cases = [(Kind::Wind, 100), (Kind::EarthPermanent, -50)];
+    let x = extremes(ALTERNATIVE, &cases);
+    assert_eq!((x.maximum.value, x.minimum.value), (210_000, -1_050_000));
+    assert_eq!((x.maximum.acting, x.minimum.acting), (0b11, 0b10));
+    assert_eq!((x.maximum.low, x.minimum.low), (0, 0));
+}
+
+#[test]
+fn alternative_utilisation() {
+    let mut s = sheet(ALTERNATIVE, &[(Kind::Dead, 100)]);
+    let capacities = |n| Capacities { n, my: 10, mz: 10 };
+    s.set_capacities(0, capacities(100)).unwrap();
+    let u = s.utilisation(0).unwrap();
+    assert_eq!((u.numerator, u.denominator), (210_000_000, 210_000_000));
+    assert_eq!((u.pass, u.ratio()), (true, 1.0));
+    s.set_capacities(0, capacities(99)).unwrap();
+    let u = s.utilisation(0).unwrap();
+    assert_eq!((u.numerator, u.denominator), (210_000_000, 207_900_000));
+    assert!(!u.pass);
+}
+
+/// The same loads in each method, with the factored effect in tenths of a kN.
+#[test]
+fn a_factored_effect_in_its_unit() {
+    for (method, unit, effect) in [
+        (Method::Strength, 1000, 250.0),
+        (Method::Allowable, 1000, 173.5),
+        (Method::Alternative, 21_000, 198.0),
+    ] {
+        let x = extremes(Settings::new(method), &P2).maximum;
+        assert_eq!((x.row.method(), method.unit()), (method, unit));
+        assert_eq!(x.effect(), effect);
+        assert_eq!(x.value as f64, effect * f64::from(unit));
+    }
+}
+
+#[test]
+fn alternative_sheets_saved() {
+    for (settings, option) in [(ALTERNATIVE, 0), (INCREASED, 1)] {
+        let mut s = sheet(settings, &P2);
+        assert_eq!(
+            (s.settings(), settings.method()),
+            (settings, Method::Alternative)
+        );
+        assert_eq!(s.save()[..6], [1, 0, 3, 3, option, 0]);
+        s.set_straining(750).unwrap();
+        assert_eq!(s.save()[6..11], [9, 0, 2, 2, 238]);
+        assert_eq!((s.ice(), s.straining()), (false, 750));
+        assert_eq!(Sheet::load(s.save()).unwrap(), s);
+        assert_eq!(made(&s.fields().collect::<Vec<_>>()), s);
+        s.run(&[Field::Start(settings)]);
+        assert_eq!(s, Sheet::new(settings));
+    }
+    assert_ne!(sheet(ALTERNATIVE, &P2), sheet(INCREASED, &P2));
+}
+
+#[test]
+fn alternative_sheets_have_no_ice_and_no_zones() {
+    let mut s = sheet(ALTERNATIVE, &P2);
+    let before = s.clone();
+    for on in [false, true] {
+        assert_eq!(s.set_ice(on), Err(Refusal::NotInMethod));
+        assert_eq!((&s, s.ice()), (&before, false));
+    }
+    let refused = |fields: &[u8]| Sheet::load(&[before.save(), fields].concat()).unwrap_err();
+    for ice in 0..=2 {
+        assert_eq!(refused(&[8, 0, 1, ice]), Refusal::NotInMethod);
+    }
+    assert_eq!(refused(&[8, 0, 2, 0, 0]), Refusal::WrongLength);
+    for (option, zone) in [(0, 1), (1, 2), (0, 3), (2, 0)] {
+        let start = [1, 0, 3, 3, option, zone];
+        assert_eq!(refused(&start), Refusal::SettingsOutside);
+        assert_eq!(Field::decode(&start), None);
+    }
+    s.run(&[Field::Start(zone(Zone::Coastal))]);
+    assert_eq!(s.set_ice(true), Ok(()));
+    assert_eq!(s.save(), [1, 0, 3, 1, 0, 1, 8, 0, 1, 1]);
+}
+
 /// Two cases of each kind, with effects of both signs at stations 0, 7 and 15, which have capacities.
 fn every_kind(settings: Settings, ice: bool) -> Sheet {
-    let mut fields = vec![Field::Start(settings), Field::SetIce { on: ice }];
-    let factor = match settings.method {
+    let mut fields = vec![Field::Start(settings)];
+    if ice {
+        fields.push(Field::SetIce { on: true });
+    }
+    let factor = match settings.method() {
         Method::Strength => 1400,
-        Method::Allowable => 800,
+        Method::Allowable | Method::Alternative => 800,
     };
     fields.push(Field::SetStraining { factor });
     let kinds = (0..28).zip(Kind::ALL.iter().cycle());
@@ -367,14 +484,14 @@ fn every_kind(settings: Settings, ice: bool) -> Sheet {
     made(&fields)
 }
 
-/// Such a sheet in all settings, without ice and with it.
+/// Such a sheet in all settings, without ice and, where the method has it, with ice.
 fn every_sheet() -> impl Iterator<Item = Sheet> {
-    let settings = every_start().flat_map(|field| [false, true].map(|ice| (field, ice)));
-    settings.map(|(field, ice)| {
-        let Field::Start(settings) = field else {
-            panic!("{field:?} has no settings")
+    every_settings().flat_map(|settings| {
+        let ice = match settings.method() {
+            Method::Strength | Method::Allowable => &[false, true][..],
+            Method::Alternative => &[false],
         };
-        every_kind(settings, ice)
+        ice.iter().map(move |&ice| every_kind(settings, ice))
     })
 }
 
@@ -655,7 +772,12 @@ fn refusals_of_loading() {
     assert_eq!(refused(&[6, 0, 2, 0, 0]), Refusal::UnknownTag);
     assert_eq!(refused(&[4, 0, 2, 0, 0]), Refusal::WrongLength);
     assert_eq!(refused(&[1, 0, 3, 1]), Refusal::Cut);
-    assert_eq!(refused(&[1, 0, 3, 3, 0, 0]), Refusal::SettingsOutside);
+    assert_eq!(refused(&[1, 0, 3, 4, 0, 0]), Refusal::SettingsOutside);
+    assert_eq!(refused(&[1, 0, 3, 3, 0, 1]), Refusal::SettingsOutside);
+    assert_eq!(
+        refused(&[1, 0, 3, 3, 0, 0, 8, 0, 1, 0]),
+        Refusal::NotInMethod
+    );
     assert_eq!(refused(&[4, 0, 1, 32]), Refusal::CaseOutside);
     assert_eq!(refused(&[7, 0, 1, 16]), Refusal::StationOutside);
     assert_eq!(refused(&[2, 0, 2, 0, 15]), Refusal::KindOutside);
@@ -699,7 +821,7 @@ fn refusals_have_their_numbers() {
         assert!(!refusal.to_string().is_empty());
     }
     assert_eq!(Refusal::from_number(0), None);
-    assert_eq!(Refusal::from_number(16), None);
+    assert_eq!(Refusal::from_number(17), None);
 }
 
 #[test]
@@ -732,8 +854,7 @@ fn a_list_of_fields() {
 
 #[test]
 fn what_a_sheet_holds() {
-    let settings = Settings {
-        method: Method::Allowable,
+    let settings = Settings::Allowable {
         live: LiveOption::Half,
         zone: Zone::Noncoastal,
     };
@@ -774,7 +895,7 @@ fn shown_for_debugging() {
     s.set_capacities(4, capacities).unwrap();
     assert_eq!(
         format!("{s:?}"),
-        "Sheet { settings: Settings { method: Strength, live: Full, zone: NoFlood }, ice: false, straining: 1000, \
+        "Sheet { settings: Strength { live: Full, zone: NoFlood }, ice: false, straining: 1000, \
          cases: {0: (Dead, {0: Effects { n: 7, my: 0, mz: 0 }})}, \
          capacities: {4: Capacities { n: 3, my: 2, mz: 1 }} }"
     );
@@ -836,19 +957,21 @@ fn every_field() -> Vec<Field> {
     fields.extend([0, 750, 1000, u16::MAX].map(|factor| Field::SetStraining { factor }));
     let names = ["L", "a name of 24 bytes: wind"];
     fields.extend(names.map(|text| name_case(case, text)));
-    fields.extend(every_start());
+    fields.extend(every_settings().map(Field::Start));
     fields
 }
 
-fn every_start() -> impl Iterator<Item = Field> {
-    let numbers = (0..12).map(|n| (n % 2, n / 2 % 2, n / 4));
-    numbers.map(|(method, live, zone)| {
-        Field::Start(Settings {
-            method: Method::ALL[method],
-            live: LiveOption::ALL[live],
-            zone: Zone::ALL[zone],
+fn every_settings() -> impl Iterator<Item = Settings> {
+    let flood = LiveOption::ALL.iter().flat_map(|&live| {
+        Zone::ALL.iter().flat_map(move |&zone| {
+            [
+                Settings::Strength { live, zone },
+                Settings::Allowable { live, zone },
+            ]
         })
-    })
+    });
+    let stresses = Stresses::ALL.iter();
+    flood.chain(stresses.map(|&stresses| Settings::Alternative { stresses }))
 }
 
 #[test]
@@ -905,9 +1028,9 @@ fn answers_that_are_not_whole() {
     assert_eq!(Answer::decode(&[]), None);
     assert_eq!(Answer::decode(&[0x80, 0]), None);
     assert_eq!(Answer::decode(&[0x81, 0, 1]), None);
-    assert_eq!(Answer::decode(&[0x81, 0, 1, 16]), None);
+    assert_eq!(Answer::decode(&[0x81, 0, 1, 17]), None);
     assert_eq!(Answer::decode(&[0x82, 0, 0]), None);
-    for (row, follows) in [(15, 16), (43, 44)] {
+    for (row, follows) in [(15, 16), (43, 44), (59, 60)] {
         assert!(Answer::decode(&answer_in_row(row)).is_some());
         assert_eq!(Answer::decode(&answer_in_row(follows)), None);
     }

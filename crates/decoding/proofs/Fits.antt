@@ -11,6 +11,7 @@ use Rattle.standard.specs.declared.Settings.{Settings}
 use Rattle.standard.specs.declared.Capacities.{Capacities}
 use Rattle.standard.specs.Range.{SettingsInRange}
 use Rattle.standard.specs.Combination.{case_count, denominator_of}
+use Rattle.standard.proofs.Facts.{unit_le}
 use Rattle.envelope.specs.declared.Best.{Best}
 use Rattle.envelope.specs.declared.Peak.{Peak}
 use Rattle.envelope.specs.Range.{effect_of, effect_most, EffectsInRange, CapacitiesInRange}
@@ -61,7 +62,7 @@ module _ (w : Sheet) (t : ℕ) (h : InRange w) (a : t < 16) where
       (sym (peak_own (pattern_best w.settings (kind_at w) (effect_of (station_effects w t)) p) 7)) u in
       record {
         numerator = omega (arith, x.value);
-        denominator = omega (arith, mul-le-mul (mul-le-mul r.n_most r.y_most) r.z_most);
+        denominator = omega (arith, mul-le-mul (unit_le w.settings) (mul-le-mul (mul-le-mul r.n_most r.y_most) r.z_most));
         row = x.row;
         acting = x.acting;
         low = x.low;

@@ -3,6 +3,7 @@
 use Prim.Native.Nat.{ℕ, ◌≤◌, ◌<◌}
 use mathlib.Core.Path.{◌≡◌, refl, sym, ap, ◌∙◌, subst}
 use mathlib.Core.List.{List, [], ◌∷◌}
+use mathlib.Core.Logic.{inl, inr}
 use native.Mathlib.Omega.{arith}
 use borrow.Author.Tests.{le-ltb, ne_eqb}
 use lib.ListN.{length, take}
@@ -10,10 +11,12 @@ use Rattle.wire.specs.Bytes.{over}
 use Rattle.sheet.specs.declared.Sheet.{Sheet}
 use Rattle.sheet.specs.declared.Answer.TheVariants as answer
 use Rattle.sheet.specs.declared.Answered.{Answered}
+use Rattle.standard.specs.Rows.{settings_of}
 use Rattle.standard.proofs.EmptyTank.{empty_tank_considered}
-use Rattle.sheet.specs.Sheet.{fresh_sheet, kind_at, capacity_at}
+use Rattle.standard.proofs.Facts.{three_methods}
+use Rattle.sheet.specs.Sheet.{fresh, fresh_sheet, kind_at, capacity_at}
 use Rattle.sheet.specs.Looks.{extremes_at, utilisation_at}
-use Rattle.refusals.specs.Refusals.{due_extremes, due_utilisation_at}
+use Rattle.refusals.specs.Refusals.{due_settings, due_extremes, due_utilisation_at}
 use Rattle.sheet.specs.Range.{InRange}
 use Rattle.sheet.proofs.Access.{well_formed, same_sheet}
 use Rattle.sheet.proofs.Promised.{extremes_govern_at, utilisation_governs_at}
@@ -26,13 +29,14 @@ use Rattle.fields.proofs.Refused.{refused_unchanged}
 use Rattle.fields.proofs.Within.{within}
 use Rattle.saving.specs.declared.Saved.TheVariants.{Written}
 use Rattle.restoring.proofs.Framing.{front_read}
+use Rattle.restoring.proofs.Stages.{settings_edit}
 use Rattle.restoring.proofs.RoundTrip.{round_trip, same_bytes, bytes_differ}
 use Rattle.answers.specs.Answers.{answer_bytes, answer_room}
 use Rattle.decoding.specs.Decoding.{decoded, AnswerFits}
 use Rattle.decoding.proofs.Decoding.{decoded_answer}
 use Rattle.decoding.proofs.Fits.{extremes_fit, utilisation_fits}
 use Rattle.demands.specs.Readings.{Made, ReadOn, Readings, worked_out, SaveOn, Restores}
-use Rattle.demands.specs.Demands.{Demand1, Demand2, look_extremes, look_utilisation, reported, ExtremesAnswered, UtilisationAnswered, Demand3, Demands}
+use Rattle.demands.specs.Demands.{Demand1, Demand2, look_extremes, look_utilisation, choose_method, IsMethod, reported, ExtremesAnswered, UtilisationAnswered, Demand3, Demands}
 use Rattle.demands.proofs.Due.{not_accepted, due_most, none_due, due_refused, refused_due, full_consumed, short_consumed, field_consumed}
 use Rattle.demands.proofs.Readings.{take_over, works_out, worked_in_range, restores, restores_unique, long_enough, saving_refused, saving_written}
 
@@ -52,6 +56,21 @@ module _ (w : Sheet) (h : InRange w) where
   utilisation_field t a c =
       let p : t ≤ 15 = omega arith in
       rw (le-ltb 15 t p, ne_eqb (capacity_at w t 0) 0 (λ e. omega arith))
+
+  -- no refusal is due on a tag 01 for one of the three methods
+  method_allowed : (method live : ℕ) → IsMethod method → live ≤ 1 → due_settings method live 0 ≡ 0
+  unfolding due_settings
+  method_allowed method live (inl e) l = rw (e, le-ltb 1 live l)
+  method_allowed method live (inr (inl e)) l = rw (e, le-ltb 1 live l)
+  method_allowed method live (inr (inr e)) l = rw (e, le-ltb 1 live l)
+
+  method_chosen : (method live : ℕ) → IsMethod method → live ≤ 1 → (m : Made) (rest : List ℕ) → answer_room ≤ length m.out →
+      m.input ≡ choose_method method live rest → ReadOn w m → (m.result.answer ≡ answer.Accepted) × (m.result.sheet ≡ fresh (settings_of method live 0))
+  method_chosen method live q l m rest room i f =
+      let three : 3 < 256 = omega arith in
+      let r = f.reading ∙ ap (λ (x : List ℕ). read_field x (length m.out) w) i
+      ∙ front_read 1 (method ∷ live ∷ 0 ∷ []) rest (length m.out) w room three (settings_edit w method live 0 (method_allowed method live q l)) in
+      (ap (λ (y : Reading). y.answer) r, ap (λ (y : Reading). y.sheet) r)
 
   -- the bytes written say what is answered
   reported_is : (m : Made) {n : ℕ} {a : Answered} → ReadOn w m → m.result ≡ reading n a → AnswerFits a.answer → reported m ≡ a.answer
@@ -133,7 +152,13 @@ module _ (w : Sheet) (h : InRange w) where
   }
 
   third : Demand3 w w
-  third = record { extremes = extremes_answered; utilisation = utilisation_answered; empty_tank = empty_tank_considered w.settings (kind_at w) }
+  third = record {
+    extremes = extremes_answered;
+    utilisation = utilisation_answered;
+    empty_tank = empty_tank_considered w.settings (kind_at w);
+    method = three_methods w.settings.method h.settings.method;
+    any_method = method_chosen;
+  }
 
 -- what holds of the sheet worked out, held by the service
 module _ (ms : List Made) {s : Sheet} (r : Readings fresh_sheet ms s) where

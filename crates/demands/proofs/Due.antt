@@ -10,7 +10,7 @@ use borrow.Author.Tests.{eq-eqb, ne_eqb, eqb-false}
 use lib.Dec.{eqb, ltb, lit<}
 use lib.ListN.{length}
 use Rattle.wire.proofs.Cases.{eq_or_ne}
-use Rattle.refusals.specs.Refusals.{first_due}
+use Rattle.refusals.specs.Refusals.{last_refusal, first_due}
 use Rattle.refusals.proofs.Fits as chain
 use Rattle.sheet.specs.declared.Sheet.{Sheet}
 use Rattle.sheet.specs.declared.Answer.TheVariants as answer
@@ -45,7 +45,7 @@ same_number e = cc
 
 -- ---- the first refusal of a reading, by the tests of its header and the first of its tag
 record Sorted (room cut unknown wrong : Bool) (n : ℕ) : Type 0 where
-  most : n ≤ 15
+  most : n ≤ last_refusal
   full : n ≡ 14 → room ≡ true
   roomy : (n ≡ 14 → ⊥) → room ≡ false
   short : n ≡ 3 → (room ≡ false) × (cut ≡ true)
@@ -70,7 +70,7 @@ module _ (input : List ℕ) (room : ℕ) (s : Sheet) where
   unfolding due
   reading_sorted = sorted (ltb room answer_room) (is_cut input) (unknown_tag (tag_of input)) _ (first_due ((tag_at (tag_of input)).refusals s (body_of input))) (tag_due_own s (body_of input) (tag_of input))
 
-  pub due_most : due input room s ≤ 15
+  pub due_most : due input room s ≤ last_refusal
   due_most = reading_sorted.most
 
   -- where none is due, the tag is known, and none of its own is due

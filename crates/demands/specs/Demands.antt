@@ -1,16 +1,18 @@
 -- SCOPE 10: the three demands, about any list of readings.
-use Rattle.std.specs.Prelude.{ℕ, ◌+◌, ◌≤◌, ◌<◌, ◌≡◌, ◌↔◌, List, ◌∷◌, length, take}
+use Rattle.std.specs.Prelude.{ℕ, ◌+◌, ◌≤◌, ◌<◌, ◌≡◌, ◌↔◌, ◌⊎◌, List, ◌∷◌, length, take}
 use Rattle.wire.specs.Bytes.{over}
+use Rattle.standard.specs.Rows.{settings_of}
 use Rattle.standard.specs.Combination.{Combination, case_count, named}
 use Rattle.standard.specs.Governing.{EmptyTankConsidered, Maximum, Minimum, Utilisation}
 use Rattle.envelope.specs.Range.{station_count, component_count}
 use Rattle.envelope.specs.declared.Extreme.{Extreme}
 use Rattle.envelope.specs.declared.Extremes as extremes
 use Rattle.envelope.specs.declared.Utilised.{Utilised}
+use Rattle.refusals.specs.Refusals.{last_refusal}
 use Rattle.sheet.specs.declared.Sheet.{Sheet}
 use Rattle.sheet.specs.declared.Answer.{Answer}
 use Rattle.sheet.specs.declared.Answer.TheVariants as answer
-use Rattle.sheet.specs.Sheet.{fresh_sheet, kind_at, effect_at, capacity_at}
+use Rattle.sheet.specs.Sheet.{fresh, fresh_sheet, kind_at, effect_at, capacity_at}
 use Rattle.sheet.specs.Looks.{capacities_at}
 use Rattle.sheet.specs.Range.{InRange}
 use Rattle.headers.specs.Headers.{length_in, body_of}
@@ -30,7 +32,7 @@ due_on w m = due m.input (length m.out) w
 pub record Demand1 (w s : Sheet) : Type 0 where
   -- a reading is refused with a number exactly when that refusal is due first (SCOPE 7.2)
   pub refused : (m : Made) (n : ℕ) → ReadOn s m → (m.result.answer ≡ answer.Refused n) ↔ ((due_on w m ≡ n) × (n ≡ 0 → ⊥))
-  pub numbers : (m : Made) → ReadOn s m → due_on w m ≤ 15
+  pub numbers : (m : Made) → ReadOn s m → due_on w m ≤ last_refusal
   -- every other one is answered as its tag says, which is no refusal (SCOPE 5.2)
   pub other : (m : Made) → ReadOn s m → due_on w m ≡ 0 → m.result.answer ≡ (field_tag m.input).answer w (body_of m.input)
   -- 14 consumes and writes nothing, 3 consumes all that is left, others the field (SCOPE 5.3, 7.3)
@@ -78,6 +80,14 @@ look_extremes station component rest = 6 ∷ 0 ∷ 2 ∷ station ∷ component �
 abbrev pub look_utilisation : ℕ → List ℕ → List ℕ
 look_utilisation station rest = 7 ∷ 0 ∷ 1 ∷ station ∷ rest
 
+-- a field of tag 01 for a method and a live option, in no flood zone (SCOPE 5.2)
+abbrev pub choose_method : ℕ → ℕ → List ℕ → List ℕ
+choose_method method live rest = 1 ∷ 0 ∷ 3 ∷ method ∷ live ∷ 0 ∷ rest
+
+-- one of the three methods (SCOPE 2.2)
+abbrev pub IsMethod : ℕ → Type 0
+IsMethod method = (method ≡ 1) ⊎ ((method ≡ 2) ⊎ (method ≡ 3))
+
 -- the combination that an answer names (SCOPE 6.1, 6.2)
 abbrev pub named_by : Extreme → Combination
 named_by x = named x.row x.acting x.low
@@ -111,6 +121,10 @@ pub record Demand3 (w s : Sheet) : Type 0 where
       m.input ≡ look_utilisation station rest → ReadOn s m → UtilisationAnswered w station m
   -- among the combinations that these go over is, with each, the same with the tank empty (SCOPE 4.2)
   pub empty_tank : EmptyTankConsidered w.settings (kind_at w)
+  -- so it is in any of the three methods: the sheet has one of them, and each may be chosen next, with either option (SCOPE 10.3)
+  pub method : IsMethod w.settings.method
+  pub any_method : (method live : ℕ) → IsMethod method → live ≤ 1 → (m : Made) (rest : List ℕ) → answer_room ≤ length m.out →
+      m.input ≡ choose_method method live rest → ReadOn s m → (m.result.answer ≡ answer.Accepted) × (m.result.sheet ≡ fresh (settings_of method live 0))
 
 -- The three demands. After any list of readings, the first on a fresh sheet and each later one on the sheet that the one before
 -- returned, they hold of the sheet worked out from the list and of the sheet that the last reading returned (SCOPE 9.1, 9.2).

@@ -1,4 +1,4 @@
--- The governing row is a row of the table, and its value fits, by a bound over the cases for factors up to 21,000.
+-- The governing row is a row of the table, and its value fits in every method, by a bound over the cases for factors up to the greatest unit.
 -- Assumes nothing.
 use Prim.Native.Nat.{ℕ, ◌+◌, ◌*◌, ◌<◌, ◌≤◌, ◌^◌, min}
 use native.Mathlib.Nat.{mul-le-mul, le_trans}
@@ -16,7 +16,7 @@ use Rattle.standard.specs.declared.Class.{Class}
 use Rattle.standard.specs.declared.Class.TheVariants.{Always, Together, Subset, OneOf, Unknown}
 use Rattle.standard.specs.Kinds.{class_of, kind_count, group_count, permanent_earth}
 use Rattle.standard.specs.Range.{SettingsInRange}
-use Rattle.standard.specs.Rows.{row_count, factor_of, low_of}
+use Rattle.standard.specs.Rows.{unit_most, row_count, factor_of, low_of}
 use Rattle.standard.specs.Combination.{case_count}
 use Rattle.standard.proofs.Facts.{factor_le}
 use Rattle.optimum.specs.Row.{greatest_by, least_by, is_together, greatest_of, least_of, lower_of, group_of, joint_of, total_of, worth_of, gain_of, loss_of, row_maximum}
@@ -99,7 +99,7 @@ module _ (s : Settings) (kind : ℕ → ℕ) (e : ℕ → ℤ) where
       omega (
         arith,
         ap nat_abs (best_some s (λ row. row_maximum s row kind e)).1,
-        maximum_most 2000 effect_most s (governing_of s kind e).row (λ k. factor_le s (governing_of s kind e).row k range) kind e small,
+        maximum_most unit_most effect_most s (governing_of s kind e).row (λ k. factor_le s (governing_of s kind e).row k range) kind e small,
       )
 
 -- weighed effects of a station in range are in range

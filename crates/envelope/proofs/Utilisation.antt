@@ -201,7 +201,7 @@ module _ (s : Settings) (kind : ℕ → ℕ) (range : SettingsInRange s) (empty 
         exact = sym is;
         over = refl;
         verdict = (
-          λ t d o. le_trans (above v (utilisation_of s kind effect p d) (numerator_le d o)) (leb→le (nat_abs v) (denominator_of p) t),
-          λ f. le→leb (nat_abs v) (denominator_of p) (subst (λ (x : ℕ). x ≤ denominator_of p) (sym is) (f c ok)),
+          λ t d o. le_trans (above v (utilisation_of s kind effect p d) (numerator_le d o)) (leb→le (nat_abs v) (denominator_of s p) t),
+          λ f. le→leb (nat_abs v) (denominator_of s p) (subst (λ (x : ℕ). x ≤ denominator_of s p) (sym is) (f c ok)),
         );
       }

@@ -97,8 +97,8 @@ utilised_of s kind effect p =
     let x : Extreme = extreme_in s kind (weighed (pattern_of p q.pattern) effect) q.best in
     record {
       numerator = nat_abs x.value;
-      denominator = denominator_of p;
-      pass = leb (nat_abs x.value) (denominator_of p);
+      denominator = denominator_of s p;
+      pass = leb (nat_abs x.value) (denominator_of s p);
       row = x.row;
       acting = x.acting;
       low = x.low;

@@ -135,6 +135,22 @@ fn allowable_iced(b: Best, table: &RowTable, s: Settings, t: Terms) -> Best
     b
 }
 
+// The best of rows 51 to 59.
+fn alternative(table: &RowTable, s: Settings, t: Terms) -> Best
+    requires { (table.now ≡ row_table) × TermsInRange t × SettingsInRange s }
+    ensures { result ≡ best_from (λ row. value_of s row t) (best_at 51 (value_of s 51 t)) 52 8 }
+{
+    let b51 = first_row(table, s, 51, t);
+    let b52 = with_row(b51, table, s, 52, t);
+    let b53 = with_row(b52, table, s, 53, t);
+    let b54 = with_row(b53, table, s, 54, t);
+    let b55 = with_row(b54, table, s, 55, t);
+    let b56 = with_row(b55, table, s, 56, t);
+    let b57 = with_row(b56, table, s, 57, t);
+    let b58 = with_row(b57, table, s, 58, t);
+    with_row(b58, table, s, 59, t)
+}
+
 // The row that governs.
 fn governing(s: Settings, t: Terms) -> Best
     requires { TermsInRange t × SettingsInRange s }
@@ -151,7 +167,7 @@ fn governing(s: Settings, t: Terms) -> Best
         let flooded = allowable_flooded(b, &table, s, t);
         return allowable_iced(flooded, &table, s, t);
     }
-    first_row(&table, s, 0, t)
+    alternative(&table, s, t)
 }
 
 // The row that governs the effects, at 0 over 1, or the effects negated, at 1 over 0.

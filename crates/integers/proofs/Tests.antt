@@ -35,6 +35,17 @@ pub refuted : (t : Bool) → T (not t) → t ≡ false
 refuted false h = refl
 refuted true h = absurd h
 
+-- two tests have the same outcome
+abbrev pub alike : Bool → Bool → Bool
+alike true b = b
+alike false b = not b
+
+pub alike_eq : (a b : Bool) → T (alike a b) → a ≡ b
+alike_eq true true t = refl
+alike_eq true false t = absurd t
+alike_eq false true t = absurd t
+alike_eq false false t = refl
+
 -- no test of two holds
 pub neither : (a b : Bool) → (a || b) ≡ false → (a ≡ false) × (b ≡ false)
 neither false b e = (refl, e)

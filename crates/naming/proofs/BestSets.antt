@@ -13,18 +13,18 @@ use Rattle.integers.specs.Sums.{when, sum, most, mask_of, up, down}
 use Rattle.integers.specs.Sets.{has}
 use Rattle.integers.proofs.Masks.{mask_below, bit_in_mask}
 use Rattle.integers.proofs.Tests.{and_right}
-use Rattle.integers.proofs.Sums.{when_le, eqb_cases, ltb_cases, sum_same, sum_plus, sum_swap}
+use Rattle.integers.proofs.Sums.{when_le, eqb_cases, ltb_cases, sum_none, sum_same, sum_plus, sum_swap}
 use Rattle.standard.specs.declared.Settings.{Settings}
 use Rattle.standard.specs.declared.Class.{Class}
 use Rattle.standard.specs.declared.Class.TheVariants.{Always, Together, Subset, OneOf, Unknown}
 use Rattle.standard.specs.Kinds.{class_of, kind_count, group_count, fluid, permanent_earth, self_straining}
 use Rattle.standard.specs.Range.{SettingsInRange}
-use Rattle.standard.specs.Rows.{factor_of}
+use Rattle.standard.specs.Rows.{factor_of, has_low}
 use Rattle.standard.specs.Columns.{kinds_in}
 use Rattle.standard.specs.Combination.{case_count}
 use Rattle.standard.proofs.Facts.{kind_in, shared_factor, shared_factor_lem}
 use Rattle.standard.proofs.Table.{tabulate, same_at}
-use Rattle.optimum.specs.Row.{group_by, is_together, group_of, acts_together, worth_of, acts_in, low_in}
+use Rattle.optimum.specs.Row.{group_by, is_together, group_of, acts_together, worth_of, acts_in, may_lower, low_in}
 use Rattle.envelope.specs.Places.{Places}
 use Rattle.naming.specs.Sets.{lead_bit, gathered_of, chosen_of, ChosenInRange, named_of}
 use Rattle.integers.proofs.Folds.{mask_same, when_sum, in_run, sum_run, most_multiple, most_at_multiple, ltb_times}
@@ -106,6 +106,20 @@ and_exchanged true false c = refl
 and_exchanged false true c = refl
 and_exchanged false false c = refl
 
+-- a set that is there under a condition
+only_where : (n : ℕ) (t : Bool) (a f : ℕ → Bool) → when t (mask_of n (λ k. a k && f k)) ≡ mask_of n (λ k. (a k && t) && f k)
+unfolding mask_of
+only_where n true a f = mask_same n (λ k. a k && f k) (λ k. (a k && true) && f k) (λ k _. held (a k) (f k))
+  where
+    held : (x y : Bool) → x && y ≡ (x && true) && y
+    held true y = refl
+    held false y = refl
+only_where n false a f = sym (sum_none n (λ k. when ((a k && false) && f k) (2 ^ k)) (λ k _. absent (a k) (f k) (2 ^ k)))
+  where
+    absent : (x y : Bool) (z : ℕ) → when ((x && false) && y) z ≡ 0
+    absent true y z = refl
+    absent false y z = refl
+
 module _ (places : List ℕ) (kind : ℕ → ℕ) (held : Places places kind) where
   -- the cases whose kind is in the run and among those of the set
   pub gathered_is : (set first count : ℕ) → 0 < first → first + count ≤ kind_count →
@@ -138,9 +152,9 @@ module _ (places : List ℕ) (kind : ℕ → ℕ) (held : Places places kind) wh
   gathered_below set first count h l =
       omega (arith, gathered_is set first count h l, mask_below case_count (λ k. in_run first count (kind k) && has set (kind k)))
 
-  pub chosen_in_range : (row : ℕ) (joint : Bool) → ChosenInRange (chosen_of row places joint)
+  pub chosen_in_range : (s : Settings) (row : ℕ) (joint : Bool) → ChosenInRange (chosen_of s row places joint)
   unfolding chosen_of
-  chosen_in_range row joint =
+  chosen_in_range s row joint =
       record {
         always =
             omega (
@@ -150,7 +164,7 @@ module _ (places : List ℕ) (kind : ℕ → ℕ) (held : Places places kind) wh
               gathered_below (kinds_in row) fluid 1 (omega arith) (omega arith),
               when_le joint (gathered_of places (kinds_in row) fluid 1),
             );
-        earth = gathered_below (kinds_in row) 3 1 (omega arith) (omega arith);
+        earth = omega (arith, gathered_below (kinds_in row) 3 1 (omega arith) (omega arith), when_le (has_low s) (gathered_of places (kinds_in row) 3 1));
         free =
             omega (
               arith,
@@ -209,7 +223,7 @@ module _ (places : List ℕ) (kind : ℕ → ℕ) (held : Places places kind) wh
         where
           -- the factor that the group's cases share, or 1 where none has a factor
           w : ℕ
-          w = max (shared_factor row g) 1
+          w = max (shared_factor s row g) 1
 
           by_group_lem : (k : ℕ) → worth_of s row kind x g k ≡ w * when (eqb (group_of (kind k)) g && factored s row kind k) (up (x k))
           by_group_lem k =
@@ -232,7 +246,7 @@ module _ (places : List ℕ) (kind : ℕ → ℕ) (held : Places places kind) wh
           ∙ sym (when_sum all case_count (λ k. when (own k) (2 ^ k)))
           ∙ ap (λ (y : ℕ). when all y) (sym (run_passing (λ j. is_together (class_of j)) fluid 1 (omega arith) (omega arith) runs.joint))
 
-      pub named_acting : (joint : Bool) → joint ≡ acts_together kind x fluid → (named_of (chosen_of row places joint) x).acting ≡ mask_of case_count (acts_in s row kind x)
+      pub named_acting : (joint : Bool) → joint ≡ acts_together kind x fluid → (named_of (chosen_of s row places joint) x).acting ≡ mask_of case_count (acts_in s row kind x)
       unfolding named_of chosen_of
       named_acting joint e =
           omega (
@@ -252,9 +266,11 @@ module _ (places : List ℕ) (kind : ℕ → ℕ) (held : Places places kind) wh
             lead_is 5 13 1 (omega arith) (omega arith) (omega arith) runs.icewind,
           )
 
-      pub named_low : (joint : Bool) → (named_of (chosen_of row places joint) x).low ≡ mask_of case_count (low_in s row kind x)
+      pub named_low : (joint : Bool) → (named_of (chosen_of s row places joint) x).low ≡ mask_of case_count (low_in s row kind x)
       unfolding named_of chosen_of low_in
       named_low joint =
-          members_passing (λ j. eqb j permanent_earth) _ (run_passing (λ j. eqb j permanent_earth) 3 1 (omega arith) (omega arith) runs.earth) (λ k. ltb 0 (down (x k)))
-          ∙ mask_same case_count (λ k. (eqb (kind k) permanent_earth && factored s row kind k) && ltb 0 (down (x k))) (low_in s row kind x)
-          (λ k m. and_exchanged (eqb (kind k) permanent_earth) (factored s row kind k) (ltb 0 (down (x k))))
+          members_passing (may_lower s) _
+          (ap (when (has_low s)) (run_passing (λ j. eqb j permanent_earth) 3 1 (omega arith) (omega arith) runs.earth)
+          ∙ only_where case_count (has_low s) (λ k. eqb (kind k) permanent_earth) (factored s row kind)) (λ k. ltb 0 (down (x k)))
+          ∙ mask_same case_count (λ k. (may_lower s (kind k) && factored s row kind k) && ltb 0 (down (x k))) (low_in s row kind x)
+          (λ k m. and_exchanged (may_lower s (kind k)) (factored s row kind k) (ltb 0 (down (x k))))

@@ -56,7 +56,7 @@ module _ (d : Chosen) (range : ChosenInRange d) (c : Chosen) (is : c ≡ d) wher
   chosen_small = subst ChosenInRange (sym is) range
 
   module _ (x : ℕ → ℤ) (earth free roof wind quake flood ice icewind : Marked)
-      (is-earth : earth ≡ marked_in (has c.earth) x case_count) (is_free : free ≡ marked_in (has c.free) x case_count)
+      (is_earth_lem : earth ≡ marked_in (has c.earth) x case_count) (is_free : free ≡ marked_in (has c.free) x case_count)
       (is-roof : roof ≡ marked_in (has c.roof) x case_count) (is-wind : wind ≡ marked_in (has c.wind) x case_count)
       (is-quake : quake ≡ marked_in (has c.quake) x case_count) (is-flood : flood ≡ marked_in (has c.flood) x case_count)
       (is-ice : ice ≡ marked_in (has c.ice) x case_count) (is-icewind : icewind ≡ marked_in (has c.icewind) x case_count) where
@@ -76,5 +76,5 @@ module _ (d : Chosen) (range : ChosenInRange d) (c : Chosen) (is : c ≡ d) wher
     pub named_is : (r : Sets) → r ≡ named_by c.always earth free roof wind quake flood ice icewind → r ≡ named_of d x
     unfolding named_of
     named_is r e =
-        e ∙ (λ i. named_by c.always (is-earth i) (is_free i) (is-roof i) (is-wind i) (is-quake i) (is-flood i) (is-ice i) (is-icewind i))
+        e ∙ (λ i. named_by c.always (is_earth_lem i) (is_free i) (is-roof i) (is-wind i) (is-quake i) (is-flood i) (is-ice i) (is-icewind i))
         ∙ ap (λ (a : Chosen). named_of a x) is

@@ -3,6 +3,8 @@ use Rattle.std.specs.Prelude.{ℕ, ◌+◌, ◌*◌, ◌<◌, ◌^◌, Bool, con
 use Rattle.std.specs.Int.Signed.{lt_z}
 use Rattle.integers.specs.Sums.{when, sum, most, most_at, mask_of, up, down}
 use Rattle.integers.specs.Sets.{has}
+use Rattle.standard.specs.declared.Settings.{Settings}
+use Rattle.standard.specs.Rows.{has_low}
 use Rattle.standard.specs.Columns.{kinds_in}
 use Rattle.standard.specs.Kinds.{fluid, self_straining}
 use Rattle.standard.specs.Combination.{case_count}
@@ -39,11 +41,11 @@ unfoldable pub gathered_of : List ℕ → (factored first count : ℕ) → ℕ
 gathered_of places factored first count = sum count (λ i. when (has factored (first + i)) (get_or places (first + i) 0))
 
 -- in a row; `joint` says that the F cases act
-unfoldable pub chosen_of : ℕ → List ℕ → Bool → Chosen
-chosen_of row places joint =
+unfoldable pub chosen_of : Settings → ℕ → List ℕ → Bool → Chosen
+chosen_of s row places joint =
     record {
       always = gathered_of places (kinds_in row) 1 1 + gathered_of places (kinds_in row) 3 1 + when joint (gathered_of places (kinds_in row) fluid 1);
-      earth = gathered_of places (kinds_in row) 3 1;
+      earth = when (has_low s) (gathered_of places (kinds_in row) 3 1);
       free = gathered_of places (kinds_in row) 4 2 + gathered_of places (kinds_in row) self_straining 1;
       roof = gathered_of places (kinds_in row) 6 3;
       wind = gathered_of places (kinds_in row) 9 1;

@@ -11,6 +11,7 @@ ghost use Rattle.envelope.specs.Places.{PlacesInRange};
 ghost use Rattle.naming.specs.Sets.{marked_with, marked_in, gathered_of, chosen_of, ChosenInRange, named_of, MarkedSets, named_by};
 
 use envelope::Weights;
+use standard::Settings;
 
 // Over the cases of a set: those with an effect above zero, those with one below, the first of those with the greatest
 // effect above zero, and that effect.
@@ -22,8 +23,8 @@ pub struct Marked {
     pub most: i64,
 }
 
-// The cases of the kinds that have a factor in a row: those that all act, D, Hp and, where they do, F; Hp alone; those of which
-// any subset acts; and each group of which at most one acts.
+// The cases of the kinds that have a factor in a row: those that all act, D, Hp and, where they do, F; Hp alone, where there is a low
+// factor; those of which any subset acts; and each group of which at most one acts.
 #[derive(Drop)]
 pub struct Chosen {
     pub always: u64,
@@ -160,17 +161,18 @@ fn gathered(places: &[u64], factored: u16, first: usize, count: usize) -> u64
 }
 
 // The cases that may act in a row, by how they may; `fluid` says that the F cases act.
-fn chosen_in(row: usize, places: &[u64], fluid: bool) -> Chosen
+fn chosen_in(s: Settings, row: usize, places: &[u64], fluid: bool) -> Chosen
     requires { (row < row_count) × PlacesInRange places.now }
-    ensures { result ≡ chosen_of row places.now fluid }
+    ensures { result ≡ chosen_of s row places.now fluid }
 {
     let factored = rows::kinds_in(row);
     let dead = gathered(places, factored, 1, 1);
     let tank = gathered(places, factored, 2, 1);
     let earth = gathered(places, factored, 3, 1);
+    let low = with_set(0, standard::has_low(s), earth);
     Chosen {
         always: with_set(dead + earth, fluid, tank),
-        earth,
+        earth: low,
         free: gathered(places, factored, 4, 2) + gathered(places, factored, 14, 1),
         roof: gathered(places, factored, 6, 3),
         wind: gathered(places, factored, 9, 1),
@@ -206,6 +208,7 @@ fn named(
 // The sets of the best combination of a row, for a component's effects with their sign turned or not; `fluid` says that the F
 // cases act.
 pub fn sets_at(
+    s: Settings,
     row: usize,
     places: &[u64],
     effects: &[i16],
@@ -213,10 +216,10 @@ pub fn sets_at(
     minus: bool,
     fluid: bool,
 ) -> Sets
-    requires { (row < row_count) × PlacesInRange places.now × ChosenInRange (chosen_of row places.now fluid) × EffectsInRange effects.now × (component < 3) }
-    ensures { result ≡ named_of (chosen_of row places.now fluid) (λ k. turned minus (effect_of effects.now k component)) }
+    requires { (row < row_count) × PlacesInRange places.now × ChosenInRange (chosen_of s row places.now fluid) × EffectsInRange effects.now × (component < 3) }
+    ensures { result ≡ named_of (chosen_of s row places.now fluid) (λ k. turned minus (effect_of effects.now k component)) }
 {
-    let c = chosen_in(row, places, fluid);
+    let c = chosen_in(s, row, places, fluid);
     let earth = marked_at(c.earth, effects, component, minus);
     let free = marked_at(c.free, effects, component, minus);
     let roof = marked_at(c.roof, effects, component, minus);
@@ -231,11 +234,18 @@ pub fn sets_at(
 }
 
 // The same for the weighed effects.
-pub fn sets_by(row: usize, places: &[u64], effects: &[i16], w: Weights, fluid: bool) -> Sets
-    requires { (row < row_count) × PlacesInRange places.now × ChosenInRange (chosen_of row places.now fluid) × EffectsInRange effects.now × WeightsInRange w }
-    ensures { result ≡ named_of (chosen_of row places.now fluid) (weighed w (effect_of effects.now)) }
+pub fn sets_by(
+    s: Settings,
+    row: usize,
+    places: &[u64],
+    effects: &[i16],
+    w: Weights,
+    fluid: bool,
+) -> Sets
+    requires { (row < row_count) × PlacesInRange places.now × ChosenInRange (chosen_of s row places.now fluid) × EffectsInRange effects.now × WeightsInRange w }
+    ensures { result ≡ named_of (chosen_of s row places.now fluid) (weighed w (effect_of effects.now)) }
 {
-    let c = chosen_in(row, places, fluid);
+    let c = chosen_in(s, row, places, fluid);
     let earth = marked_by(c.earth, effects, w);
     let free = marked_by(c.free, effects, w);
     let roof = marked_by(c.roof, effects, w);

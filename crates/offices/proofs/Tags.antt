@@ -11,7 +11,7 @@ use Rattle.wire.specs.Bytes.{byte_at, word_at}
 use Rattle.wire.proofs.Cases.{eq_or_ne, lt_or_ge}
 use Rattle.standard.specs.Rows.{switched, strained}
 use Rattle.envelope.specs.Range.{station_count, component_count}
-use Rattle.refusals.specs.Refusals.{first_due, fill_refusals, effects_refusals, empty_refusals, utilisation_refusals, straining_refusals, due_fill_at, due_effects_at, due_empty_at, due_capacities, due_extremes}
+use Rattle.refusals.specs.Refusals.{first_due, fill_refusals, effects_refusals, empty_refusals, utilisation_refusals, switch_refusals, straining_refusals, due_fill_at, due_effects_at, due_empty_at, due_capacities, due_extremes}
 use Rattle.refusals.proofs.Fits.{fill_range, effects_range, empty_range, capacities_range, extremes_range}
 use Rattle.sheet.specs.declared.Sheet.{Sheet}
 use Rattle.sheet.specs.declared.Answer.TheVariants as answer
@@ -106,5 +106,5 @@ module _ {t : ℕ} {s v : Sheet} (h : InRange s) (g : InRange v) (a : t < statio
   by_station =
       by_number (λ tag. TagSame t s v b (tag_at tag) ⊎ LookAtOther t b tag)
       (inl (record { refusal = refl; answer = λ _. refl; after = λ _. holds_itself t _ })) (inl fill) (inl effects) (inl empty) (inl capacities) look_extremes_lem look_utilisation_lem
-      (inl (record { refusal = refl; answer = λ _. refl; after = λ _. settings_same h g a same (switched b0) }))
+      (inl (record { refusal = ap (λ x. first_due (switch_refusals x.method b0)) same.settings; answer = λ _. refl; after = λ _. settings_same h g a same (switched b0) }))
       (inl (record { refusal = ap (λ x. first_due (straining_refusals x.method (word_at b 0))) same.settings; answer = λ _. refl; after = λ _. settings_same h g a same (strained (word_at b 0)) }))

@@ -18,7 +18,7 @@ use Rattle.standard.specs.declared.Settings.{Settings}
 use Rattle.standard.specs.declared.Class.{Class}
 use Rattle.standard.specs.declared.Class.TheVariants.{Always, Together, Subset, OneOf, Unknown}
 use Rattle.standard.specs.Kinds.{classes, class_of, kind_count, group_count, permanent_earth}
-use Rattle.standard.specs.Rows.{factor_of, low_of}
+use Rattle.standard.specs.Rows.{factor_of, has_low, low_of}
 use Rattle.standard.specs.Combination.{Combination, Admissible, taken, factored_effect, case_count}
 use Rattle.standard.proofs.Facts.{low_le_full, unknown_none, group_below}
 use Rattle.optimum.specs.Row.{least_by, greatest_by, group_by, is_together, lower_of, least_of, greatest_of, group_of, joint_of, total_of, gain_of, loss_of, row_maximum}
@@ -38,7 +38,7 @@ record Fair (q : Class) (f low : ℕ) (h a l : Bool) : Type 0 where
   always : q ≡ Always → 0 < f → T a
   low_acts : T l → T a
   low_earth : T l → T h
-  low_least : T h → 0 < f → low ≤ f
+  low_least : T l → 0 < f → low ≤ f
   earth_always : T h → q ≡ Always
   unknown : q ≡ Unknown → f ≡ 0
   group : (g : ℕ) → q ≡ OneOf g → g < group_count
@@ -104,9 +104,8 @@ pub earth_apart : is_together (class_of permanent_earth) ≡ false
 unfolding class_of
 earth_apart = refl
 
-pub low_least : (s : Settings) (row kind : ℕ) → T (eqb kind permanent_earth) → 0 < factor_of s row kind → low_of s ≤ factor_of s row kind
-low_least s row kind h =
-    subst (λ (j : ℕ). 0 < factor_of s row j → low_of s ≤ factor_of s row j) (sym (eqb→eq kind permanent_earth h)) (low_le_full s row)
+pub low_least : (s : Settings) (row kind : ℕ) → T (has_low s) → kind ≡ permanent_earth → 0 < factor_of s row kind → low_of s ≤ factor_of s row kind
+low_least s row kind l h = subst (λ (j : ℕ). 0 < factor_of s row j → low_of s ≤ factor_of s row j) (sym h) (low_le_full s row l)
 
 module _ (s : Settings) (kind : ℕ → ℕ) (e : ℕ → ℤ) (c : Combination) (ok : Admissible s kind c) where
   fair : (k : ℕ) → Fair (class_of (kind k)) (factor_of s c.row (kind k)) (low_of s) (eqb (kind k) permanent_earth) (c.acting k) (c.low k)
@@ -116,7 +115,7 @@ module _ (s : Settings) (kind : ℕ → ℕ) (e : ℕ → ℤ) (c : Combination)
         always = ok.always k;
         low_acts = ok.low_acts k;
         low_earth = λ l. subst (λ (t : Bool). T t) (sym (eq-eqb (kind k) permanent_earth (ok.low_earth k l))) tt;
-        low_least = low_least s c.row (kind k);
+        low_least = λ l. low_least s c.row (kind k) (ok.low_method k l) (ok.low_earth k l);
         earth_always = earth_always (kind k);
         unknown = unknown_none s c.row (kind k);
         group = group_below (kind k);

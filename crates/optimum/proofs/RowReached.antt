@@ -15,11 +15,11 @@ use Rattle.standard.specs.declared.Settings.{Settings}
 use Rattle.standard.specs.declared.Class.{Class}
 use Rattle.standard.specs.declared.Class.TheVariants.{Always, Together, Subset, OneOf, Unknown}
 use Rattle.standard.specs.Kinds.{class_of, kind_count, group_count, permanent_earth}
-use Rattle.standard.specs.Rows.{factor_of, low_of, is_open_row}
+use Rattle.standard.specs.Rows.{factor_of, has_low, low_of, is_open_row}
 use Rattle.standard.specs.Combination.{Combination, Admissible, taken, factored_effect, case_count}
 use Rattle.standard.specs.Governing.{Reaches}
-use Rattle.standard.proofs.Facts.{group_below}
-use Rattle.optimum.specs.Row.{least_by, greatest_by, group_by, is_together, lower_of, least_of, greatest_of, group_of, leader_of, joint_of, total_of, gain_of, loss_of, row_maximum, acts_by, acts_in, low_in, best_combination}
+use Rattle.standard.proofs.Facts.{group_below, full_le_low}
+use Rattle.optimum.specs.Row.{least_by, greatest_by, group_by, is_together, lower_of, least_of, greatest_of, group_of, leader_of, joint_of, total_of, gain_of, loss_of, row_maximum, acts_by, acts_in, may_lower, low_in, best_combination}
 use Rattle.optimum.proofs.Attained.{attained_up, attained_down}
 use Rattle.optimum.proofs.RowBound.{apart, earth_always, low_least, past_apart}
 use Rattle.optimum.proofs.Together.{split, together_exact}
@@ -57,14 +57,16 @@ up_by Subset first joint false low f m n = refl
 up_by (OneOf g) first joint h low f m n = absurd (omega (arith, n g refl))
 up_by Unknown first joint h low f m n = refl
 
-down_by : (q : Class) (first joint h : Bool) (low f : ℕ) → group_count ≤ group_by q → ((g : ℕ) → q ≡ OneOf g → g < group_count) → (T h → low ≤ f) →
-    alone q (given q true false first joint h true low f) ≡ least_by q (cond h (min low f) f)
-down_by Always first joint true low f m n l = let k : low ≤ f = l tt in omega arith
-down_by Always first joint false low f m n l = refl
-down_by Together first joint h low f m n l = refl
-down_by Subset first joint h low f m n l = refl
-down_by (OneOf g) first joint h low f m n l = absurd (omega (arith, n g refl))
-down_by Unknown first joint h low f m n l = refl
+-- h says that the case is Hp, b that there is a low factor
+down_by : (q : Class) (first joint h b : Bool) (low f : ℕ) → group_count ≤ group_by q → ((g : ℕ) → q ≡ OneOf g → g < group_count) →
+    (T h → T b → low ≤ f) → (T h → b ≡ false → f ≤ low) → alone q (given q true false first joint (h && b) true low f) ≡ least_by q (cond h (min low f) f)
+down_by Always first joint true true low f m n l o = let k : low ≤ f = l tt tt in omega arith
+down_by Always first joint true false low f m n l o = let k : f ≤ low = o tt refl in omega arith
+down_by Always first joint false b low f m n l o = refl
+down_by Together first joint h b low f m n l o = refl
+down_by Subset first joint h b low f m n l o = refl
+down_by (OneOf g) first joint h b low f m n l o = absurd (omega (arith, n g refl))
+down_by Unknown first joint h b low f m n l o = refl
 
 lead_by : (q : Class) (p first joint h d : Bool) (low f : ℕ) → group_by q < group_count → (T h → q ≡ Always) →
     alone q (given q true p first joint h d low f) ≡ when (first && p) f
@@ -127,6 +129,12 @@ module _ (s : Settings) (row : ℕ) (kind : ℕ → ℕ) (e : ℕ → ℤ) where
   abbrev is_earth : ℕ → Bool
   is_earth k = eqb (kind k) permanent_earth
 
+  abbrev lowers : ℕ → Bool
+  lowers k = may_lower s (kind k)
+
+  is_earth_lem : (k : ℕ) → T (lowers k) → T (is_earth k)
+  is_earth_lem k = and_left (is_earth k) _
+
   abbrev f : ℕ → ℕ
   f k = factor_of s row (kind k)
 
@@ -134,8 +142,8 @@ module _ (s : Settings) (row : ℕ) (kind : ℕ → ℕ) (e : ℕ → ℤ) where
   unfolding acts_in low_in greatest_of group_of
   own_up k m p =
       rw (lt-ltb 0 (up (e k)) p, le-ltb 0 (down (e k)) (omega (arith, up_alone (e k) p)))
-      (ltb_cases 0 (f k) (λ x. alone (class_of (kind k)) (given (class_of (kind k)) x true (first k) (joint k) (is_earth k) false (low_of s) (f k)) ≡ greatest_by (class_of (kind k)) (f k))
-      (λ x. up_by (class_of (kind k)) (first k) (joint k) (is_earth k) (low_of s) (f k) m (group_below (kind k)))
+      (ltb_cases 0 (f k) (λ x. alone (class_of (kind k)) (given (class_of (kind k)) x true (first k) (joint k) (lowers k) false (low_of s) (f k)) ≡ greatest_by (class_of (kind k)) (f k))
+      (λ x. up_by (class_of (kind k)) (first k) (joint k) (lowers k) (low_of s) (f k) m (group_below (kind k)))
       (λ x. none_alone (class_of (kind k)) ∙ sym (no_factor (class_of (kind k)) (is_earth k) (low_of s) (f k) x).0))
 
   own_down : (k : ℕ) → group_count ≤ group_of (kind k) → 0 < down (e k) → by_itself k ≡ least_of s row (kind k)
@@ -143,24 +151,26 @@ module _ (s : Settings) (row : ℕ) (kind : ℕ → ℕ) (e : ℕ → ℤ) where
   own_down k m p =
       rw (lt-ltb 0 (down (e k)) p, le-ltb 0 (up (e k)) (down_alone (e k) p))
       (ltb_cases 0 (f k)
-      (λ x. alone (class_of (kind k)) (given (class_of (kind k)) x false (first k) (joint k) (is_earth k) true (low_of s) (f k)) ≡ least_by (class_of (kind k)) (cond (is_earth k) (min (low_of s) (f k)) (f k)))
-      (λ x. down_by (class_of (kind k)) (first k) (joint k) (is_earth k) (low_of s) (f k) m (group_below (kind k)) (λ h. low_least s row (kind k) h x))
+      (λ x. alone (class_of (kind k)) (given (class_of (kind k)) x false (first k) (joint k) (lowers k) true (low_of s) (f k)) ≡ least_by (class_of (kind k)) (cond (is_earth k) (min (low_of s) (f k)) (f k)))
+      (λ x. down_by (class_of (kind k)) (first k) (joint k) (is_earth k) (has_low s) (low_of s) (f k) m (group_below (kind k))
+      (λ h b. low_least s row (kind k) b (eqb→eq (kind k) permanent_earth h) x)
+      (λ h b. subst (λ (j : ℕ). factor_of s row j ≤ low_of s) (sym (eqb→eq (kind k) permanent_earth h)) (full_le_low s row b)))
       (λ x. none_alone (class_of (kind k)) ∙ sym (no_factor (class_of (kind k)) (is_earth k) (low_of s) (f k) x).1))
 
   leader : (k : ℕ) → group_of (kind k) < group_count → by_itself k ≡ when (first k && ltb 0 (up (e k))) (f k)
   unfolding acts_in low_in group_of
   leader k m =
       ltb_cases 0 (f k)
-      (λ x. alone (class_of (kind k)) (given (class_of (kind k)) x (ltb 0 (up (e k))) (first k) (joint k) (is_earth k) (ltb 0 (down (e k))) (low_of s) (f k)) ≡ when (first k && ltb 0 (up (e k))) (f k))
-      (λ x. lead_by (class_of (kind k)) (ltb 0 (up (e k))) (first k) (joint k) (is_earth k) (ltb 0 (down (e k))) (low_of s) (f k) m (earth_always (kind k)))
+      (λ x. alone (class_of (kind k)) (given (class_of (kind k)) x (ltb 0 (up (e k))) (first k) (joint k) (lowers k) (ltb 0 (down (e k))) (low_of s) (f k)) ≡ when (first k && ltb 0 (up (e k))) (f k))
+      (λ x. lead_by (class_of (kind k)) (ltb 0 (up (e k))) (first k) (joint k) (lowers k) (ltb 0 (down (e k))) (low_of s) (f k) m (λ h. earth_always (kind k) (is_earth_lem k h)))
       (λ x. none_alone (class_of (kind k)) ∙ when_zero (first k && ltb 0 (up (e k))) (f k) x)
 
   jointly_is : (k : ℕ) → jointly k ≡ when (joint k) (joint_of s row (kind k))
   unfolding acts_in low_in joint_of
   jointly_is k =
       ltb_cases 0 (f k)
-      (λ x. when (is_together (class_of (kind k))) (given (class_of (kind k)) x (ltb 0 (up (e k))) (first k) (joint k) (is_earth k) (ltb 0 (down (e k))) (low_of s) (f k)) ≡ when (joint k) (when (is_together (class_of (kind k))) (f k)))
-      (λ x. joint_by (class_of (kind k)) (ltb 0 (up (e k))) (first k) (joint k) (is_earth k) (ltb 0 (down (e k))) (low_of s) (f k) (earth_always (kind k)))
+      (λ x. when (is_together (class_of (kind k))) (given (class_of (kind k)) x (ltb 0 (up (e k))) (first k) (joint k) (lowers k) (ltb 0 (down (e k))) (low_of s) (f k)) ≡ when (joint k) (when (is_together (class_of (kind k))) (f k)))
+      (λ x. joint_by (class_of (kind k)) (ltb 0 (up (e k))) (first k) (joint k) (lowers k) (ltb 0 (down (e k))) (low_of s) (f k) (λ h. earth_always (kind k) (is_earth_lem k h)))
       (λ x. sym (nothing (is_together (class_of (kind k))))
       ∙ when_zero (joint k) (when (is_together (class_of (kind k))) (f k)) (omega (arith, when_le (is_together (class_of (kind k))) (f k))))
 
@@ -205,11 +215,11 @@ module _ (s : Settings) (row : ℕ) (kind : ℕ → ℕ) (e : ℕ → ℤ) where
   unfolding acts_in
   acts_jointly k q = rw q
 
-  low_factor_lem : (k : ℕ) → T (low_in s row kind e k) → T (is_earth k) × (0 < f k)
+  low_factor_lem : (k : ℕ) → T (low_in s row kind e k) → T (lowers k) × (0 < f k)
   unfolding low_in
   low_factor_lem k t = (
-    and_left (is_earth k) (ltb 0 (down (e k))) (and_right (ltb 0 (f k)) (is_earth k && ltb 0 (down (e k))) t),
-    ltb→lt 0 (f k) (and_left (ltb 0 (f k)) (is_earth k && ltb 0 (down (e k))) t),
+    and_left (lowers k) (ltb 0 (down (e k))) (and_right (ltb 0 (f k)) (lowers k && ltb 0 (down (e k))) t),
+    ltb→lt 0 (f k) (and_left (ltb 0 (f k)) (lowers k && ltb 0 (down (e k))) t),
   )
 
   has_factor : (k : ℕ) → T (acts_in s row kind e k) → 0 < f k
@@ -228,8 +238,9 @@ module _ (s : Settings) (row : ℕ) (kind : ℕ → ℕ) (e : ℕ → ℤ) where
                   subst (λ (t : Bool). T t)
                   (acts_jointly j q ∙ ap (λ (x : ℕ). ltb 0 (factor_of s row x) && ltb 0 (up (total_of kind e x))) i ∙ sym (acts_jointly k (ap class_of (sym i) ∙ q))) a;
               single = λ g j k p q a b. sym (leads_acting g j p a) ∙ leads_acting g k q b;
-              low_acts = λ k t. always_acts k (earth_always (kind k) (low_factor_lem k t).0) (low_factor_lem k t).1;
-              low_earth = λ k t. eqb→eq (kind k) permanent_earth (low_factor_lem k t).0;
+              low_acts = λ k t. always_acts k (earth_always (kind k) (is_earth_lem k (low_factor_lem k t).0)) (low_factor_lem k t).1;
+              low_earth = λ k t. eqb→eq (kind k) permanent_earth (is_earth_lem k (low_factor_lem k t).0);
+              low_method = λ k t. and_right (is_earth k) (has_low s) (low_factor_lem k t).0;
             };
         exact = exact;
       }

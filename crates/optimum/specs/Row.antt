@@ -5,7 +5,7 @@ use Rattle.standard.specs.declared.Settings.{Settings}
 use Rattle.standard.specs.declared.Class.{Class}
 use Rattle.standard.specs.declared.Class.TheVariants.{Always, Together, Subset, OneOf, Unknown}
 use Rattle.standard.specs.Kinds.{class_of, kind_count, group_count, permanent_earth}
-use Rattle.standard.specs.Rows.{factor_of, low_of}
+use Rattle.standard.specs.Rows.{factor_of, has_low, low_of}
 use Rattle.standard.specs.Combination.{Combination, case_count}
 use Rattle.optimum.specs.Factors.{worth, leads}
 
@@ -100,9 +100,13 @@ acts_in s row kind e k =
     ltb 0 (factor_of s row (kind k))
     && acts_by (class_of (kind k)) (ltb 0 (up (e k))) (eqb (leader_of s row kind e (group_of (kind k))) k) (acts_together kind e (kind k))
 
--- an Hp case whose effect is negative takes the low factor
+-- whether a case of a kind may take the low factor
+abbrev pub may_lower : Settings → ℕ → Bool
+may_lower s kind = eqb kind permanent_earth && has_low s
+
+-- an Hp case whose effect is negative takes the low factor, where there is one
 unfoldable pub low_in : Settings → ℕ → (ℕ → ℕ) → (ℕ → ℤ) → ℕ → Bool
-low_in s row kind e k = ltb 0 (factor_of s row (kind k)) && (eqb (kind k) permanent_earth && ltb 0 (down (e k)))
+low_in s row kind e k = ltb 0 (factor_of s row (kind k)) && (may_lower s (kind k) && ltb 0 (down (e k)))
 
 abbrev pub best_combination : Settings → ℕ → (ℕ → ℕ) → (ℕ → ℤ) → Combination
 best_combination s row kind e = record { row = row; acting = acts_in s row kind e; low = low_in s row kind e }

@@ -7,7 +7,7 @@ use recheck_bytes::{byte_at, index_at, number_at, same_at};
 use recheck_combinations::{Look, times};
 use recheck_enumeration::{Named, Options, all_between, is_large, reaches};
 use recheck_refusals::refusal_due;
-use recheck_rows::low_factor;
+use recheck_rows::{low_factor, unit};
 use recheck_sheet::{WorkingSheet, changed};
 use std::num::wrapping_add_u64;
 
@@ -120,14 +120,19 @@ fn utilisation_right(w: WorkingSheet, field: &[u8], answer: &[u8]) -> bool {
     let o = options(w);
     let k = utilisation_look(w, station, number_at(answer, 3, 8));
     let header = headed(answer, 29, b"\x87\x00\x1a");
-    let share = share_right(k, number_at(answer, 11, 8), byte_at(answer, 19));
+    let share = share_right(
+        k,
+        unit(w.method),
+        number_at(answer, 11, 8),
+        byte_at(answer, 19),
+    );
     let reached = reaches(k, o, &w.kinds, &effects, named_at(answer, 20, k.greatest));
     header & share & reached & bounded(k, o, &w.kinds, &effects)
 }
 
 // The denominator is the formula's, and the verdict is pass exactly where the numerator is not above it.
-fn share_right(k: Look, denominator: u64, verdict: u8) -> bool {
-    let formula = times(times(1000, k.axial), times(k.bending_y, k.bending_z));
+fn share_right(k: Look, unit: u64, denominator: u64, verdict: u8) -> bool {
+    let formula = times(times(unit, k.axial), times(k.bending_y, k.bending_z));
     let pass = k.greatest <= denominator;
     (formula == denominator) & (verdict == pass as u8)
 }

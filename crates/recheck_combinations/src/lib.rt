@@ -1,14 +1,15 @@
 // One combination: whether it is admissible, and the figure that it gives.
-// Sets of cases are numbers, case k being bit k. Signed figures are two's complement in 64 bits.
+// Sets of cases are numbers, case k being bit k. Signed figures are moved up by 2^63, so that they compare as unsigned ones.
 
-ghost use Rattle.std.specs.Prelude.{◌≡◌, ◌*◌, ◌%◌, if◌then◌else◌, bit_or};
-ghost use Rattle.recheck_combinations.specs.Acting.{having, rules_of, within, all_or_none, at_most_one, may_act, may_be_low, Factors};
+ghost use Rattle.std.specs.Prelude.{◌≡◌, cond, ◌*◌, ◌%◌, ◌≤◌, eqb};
+ghost use Rattle.std.specs.Int.Bits.{bit_or};
+ghost use Rattle.recheck_combinations.specs.Acting.{having, rules_of, within, all_or_none, at_most_one, may_act, may_be_low};
+ghost use Rattle.recheck_combinations.specs.Figures.{Factors, Signed, Moved};
 
 use recheck_rows::factor;
-use std::num::{wrapping_add_u64, wrapping_sub_u64};
 
 // What a look asks for: a component's factored effect, or the numerator of the utilisation (component 3);
-// and the ends between which every admissible combination must give its figure.
+// and the ends between which every admissible combination must give its figure. A low factor of 0 is none.
 #[derive(Drop)]
 pub struct Look {
     pub component: u8,
@@ -32,7 +33,7 @@ pub struct Rules {
     pub flood: u64,
     pub ice_weight: u64,
     pub ice_wind: u64,
-    pub hp: u64,
+    pub low: u64,
 }
 
 // Each place's full factor in the row.
@@ -50,7 +51,7 @@ pub fn factors_in(kinds: &[u8; 32], row: u8, option: u8, straining: u16) -> [u64
 
 // The set and, where it is asked for, the case of this bit.
 fn joined(set: u64, bit: u64, asked: bool) -> u64
-    ensures { result ≡ (if asked then bit_or set bit else set) }
+    ensures { result ≡ cond asked (bit_or set bit) set }
 {
     if asked { set | bit } else { set }
 }
@@ -72,8 +73,15 @@ fn having(kinds: &[u8; 32], factors: &[u64; 32], first: u8, last: u8) -> u64
     set
 }
 
-pub fn rules_of(kinds: &[u8; 32], factors: &[u64; 32]) -> Rules
-    ensures { result ≡ rules_of kinds.now factors.now }
+// The Hp cases that may be at the low factor: none where there is no such factor.
+fn lowerable(hp: u64, low_factor: u64) -> u64
+    ensures { result ≡ cond (eqb low_factor 0) 0 hp }
+{
+    if low_factor == 0 { 0 } else { hp }
+}
+
+pub fn rules_of(kinds: &[u8; 32], factors: &[u64; 32], low_factor: u64) -> Rules
+    ensures { result ≡ rules_of kinds.now factors.now low_factor }
 {
     let hp = having(kinds, factors, 3, 3);
     Rules {
@@ -86,7 +94,7 @@ pub fn rules_of(kinds: &[u8; 32], factors: &[u64; 32]) -> Rules
         flood: having(kinds, factors, 11, 11),
         ice_weight: having(kinds, factors, 12, 12),
         ice_wind: having(kinds, factors, 13, 13),
-        hp,
+        low: lowerable(hp, low_factor),
     }
 }
 
@@ -132,26 +140,41 @@ pub fn may_act(r: Rules, acting: u64) -> bool
 pub fn may_be_low(r: Rules, acting: u64, low: u64) -> bool
     ensures { result ≡ may_be_low r acting low }
 {
-    within(low, acting & r.hp)
+    within(low, acting & r.low)
 }
 
-// The product of two numbers below 2^32, as all here are; the remainders are taken only to show that it fits.
+// The product of two numbers below 2^32, as the parts of a denominator are; the remainders are taken only to show that it fits.
 pub fn times(a: u64, b: u64) -> u64
     ensures { result ≡ a % 4294967296 * (b % 4294967296) }
 {
     (a % 4294967296) * (b % 4294967296)
 }
 
-// Factor times effect, the effect being 16 bits of two's complement.
-fn scaled(by: u64, effect: u16) -> u64 {
+// Factor times the size of an effect: at most 2^29. The remainders are taken only to show that, for no factor is above 21,000 and no
+// effect above 10,000.
+fn product(by: u64, size: u64) -> u64
+    ensures value { by ≤ 21000 → size ≤ 10000 → result ≡ by * size }
+    ensures upper_bound { result ≤ 536870912 }
+{
+    (by % 32768) * (size % 16384)
+}
+
+// The figure with a case counted at this factor, where it acts. The effect is 16 bits of two's complement.
+fn with_case(figure: u64, acts: bool, by: u64, effect: u16) -> u64
+    requires { Signed figure 17179869184 }
+    ensures { Moved result figure 536870912 }
+{
+    if !acts {
+        return figure;
+    }
     if effect < 32768 {
-        times(by, effect as u64)
+        figure + product(by, effect as u64)
     } else {
-        wrapping_sub_u64(0, times(by, 65536 - (effect as u64)))
+        figure - product(by, 65536 - (effect as u64))
     }
 }
 
-// A component's factored effect. `effects` holds three for each place.
+// A component's factored effect: 32 products at most, which come to 2^34. `effects` holds three for each place.
 fn factored(
     factors: &[u64; 32],
     effects: &[u16; 96],
@@ -159,20 +182,20 @@ fn factored(
     low_factor: u64,
     acting: u64,
     low: u64,
-) -> u64 {
-    let mut sum: u64 = 0;
+) -> u64
+    ensures { Signed result 17179869184 }
+{
+    let mut sum: u64 = 9223372036854775808;
     let mut acts = acting;
     let mut lows = low;
     let mut case: usize = 0;
     while case < 32 {
-        if acts % 2 == 1 {
-            let by = if lows % 2 == 1 {
-                low_factor
-            } else {
-                factors[case]
-            };
-            sum = wrapping_add_u64(sum, scaled(by, effects[case * 3 + component % 3]));
-        }
+        let by = if lows % 2 == 1 {
+            low_factor
+        } else {
+            factors[case]
+        };
+        sum = with_case(sum, acts % 2 == 1, by, effects[case * 3 + component % 3]);
         acts = acts / 2;
         lows = lows / 2;
         case += 1;
@@ -180,28 +203,38 @@ fn factored(
     sum
 }
 
-// The size of a factored effect, which is below 2^30.
-fn size(x: u64) -> u64 {
-    if x < 9223372036854775808 {
-        x
+fn size(figure: u64) -> u64
+    requires { Signed figure 17179869184 }
+    ensures { result ≤ 17179869184 }
+{
+    if figure < 9223372036854775808 {
+        9223372036854775808 - figure
     } else {
-        wrapping_sub_u64(0, x)
+        figure - 9223372036854775808
     }
 }
 
-// The figure that the look asks for. Signed figures are moved up by 2^63, so that they compare as unsigned ones.
+// The size of a factored effect times the capacities for the other two components: at most 2^62, so that three of them fit together. The
+// remainders are taken only to show that, for no capacity is above 10,000.
+fn weighted(size: u64, first: u64, second: u64) -> u64
+    requires { size ≤ 17179869184 }
+    ensures value { first ≤ 10000 → second ≤ 10000 → result ≡ size * (first * second) }
+    ensures upper_bound { result ≤ 4611686018427387904 }
+{
+    size * ((first % 16384) * (second % 16384))
+}
+
+// The figure that the look asks for.
 pub fn figure(k: Look, factors: &[u64; 32], effects: &[u16; 96], acting: u64, low: u64) -> u64 {
     let by = k.low_factor;
     if k.component < 3 {
-        let component = k.component as usize;
-        let sum = factored(factors, effects, component, by, acting, low);
-        return wrapping_add_u64(sum, 9223372036854775808);
+        return factored(factors, effects, k.component as usize, by, acting, low);
     }
     let n = factored(factors, effects, 0, by, acting, low);
     let y = factored(factors, effects, 1, by, acting, low);
     let z = factored(factors, effects, 2, by, acting, low);
-    let from_n = times(size(n), times(k.bending_y, k.bending_z));
-    let from_y = times(size(y), times(k.axial, k.bending_z));
-    let from_z = times(size(z), times(k.axial, k.bending_y));
-    wrapping_add_u64(wrapping_add_u64(from_n, from_y), from_z)
+    let from_n = weighted(size(n), k.bending_y, k.bending_z);
+    let from_y = weighted(size(y), k.axial, k.bending_z);
+    let from_z = weighted(size(z), k.axial, k.bending_y);
+    from_n + from_y + from_z
 }

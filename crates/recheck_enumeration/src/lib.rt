@@ -130,7 +130,7 @@ fn row_between(
     sets: &[u64; 128],
     count: usize,
 ) -> bool {
-    let r = rules_of(kinds, factors);
+    let r = rules_of(kinds, factors, k.low_factor);
     let mut between = true;
     let mut i: usize = 0;
     while i < count {
@@ -153,7 +153,7 @@ pub fn all_between(k: Look, o: Options, kinds: &[u8; 32], effects: &[u16; 96]) -
     let count = subset_count(members(all));
     let mut between = true;
     let mut row: u8 = 0;
-    while row < 44 {
+    while row < 60 {
         if open(row, o.method, o.zone, o.ice) {
             let factors = factors_in(kinds, row, o.live, o.straining);
             if !row_between(k, kinds, &factors, effects, &sets, count) {
@@ -177,7 +177,7 @@ pub struct Named {
 // Whether the combination named is admissible and gives exactly the figure beside it.
 pub fn reaches(k: Look, o: Options, kinds: &[u8; 32], effects: &[u16; 96], c: Named) -> bool {
     let factors = factors_in(kinds, c.row, o.live, o.straining);
-    let r = rules_of(kinds, &factors);
+    let r = rules_of(kinds, &factors, k.low_factor);
     let f = figure(k, &factors, effects, c.acting, c.low);
     let admissible = may_act(r, c.acting) & may_be_low(r, c.acting, c.low);
     open(c.row, o.method, o.zone, o.ice) & admissible & (f == c.figure)

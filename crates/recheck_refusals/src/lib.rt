@@ -24,24 +24,24 @@ fn body_length(tag: u8) -> u16 {
 
 // The refusal where it is due.
 fn due(refused: bool, number: u8) -> u8
-    requires { number ≤ 15 }
-    ensures { result ≤ 15 }
+    requires { number ≤ 16 }
+    ensures { result ≤ 16 }
 {
     if refused { number } else { 0 }
 }
 
 // The first of several that is due.
 fn first(a: u8, b: u8) -> u8
-    requires a_bound { a ≤ 15 }
-    requires b_bound { b ≤ 15 }
-    ensures { result ≤ 15 }
+    requires a_bound { a ≤ 16 }
+    requires b_bound { b ≤ 16 }
+    ensures { result ≤ 16 }
 {
     if a == 0 { b } else { a }
 }
 
 // The tag is unknown, or the length is not the tag's.
 fn length_refusal(tag: u8, length: u16) -> u8
-    ensures { result ≤ 15 }
+    ensures { result ≤ 16 }
 {
     if tag == NAME_TAG {
         return due(!is_name_length(length), 2);
@@ -51,7 +51,7 @@ fn length_refusal(tag: u8, length: u16) -> u8
 }
 
 fn header_refusal(field: &[u8]) -> u8
-    ensures { result ≤ 15 }
+    ensures { result ≤ 16 }
 {
     let n = field.len();
     let length = pair_at(field, 1);
@@ -60,13 +60,13 @@ fn header_refusal(field: &[u8]) -> u8
 }
 
 fn case_refusal(field: &[u8], at: usize) -> u8
-    ensures { result ≤ 15 }
+    ensures { result ≤ 16 }
 {
     due(byte_at(field, at) > 31, 5)
 }
 
 fn station_refusal(field: &[u8], at: usize) -> u8
-    ensures { result ≤ 15 }
+    ensures { result ≤ 16 }
 {
     due(byte_at(field, at) > 15, 6)
 }
@@ -74,7 +74,7 @@ fn station_refusal(field: &[u8], at: usize) -> u8
 // Two's complement: -10,000 is 55,536.
 fn effect_refusal(field: &[u8], at: usize) -> u8
     requires { at < 60000 }
-    ensures { result ≤ 15 }
+    ensures { result ≤ 16 }
 {
     let effect = pair_at(field, at);
     due((effect > 10000) & (effect < 55536), 9)
@@ -82,30 +82,33 @@ fn effect_refusal(field: &[u8], at: usize) -> u8
 
 fn capacity_refusal(field: &[u8], at: usize) -> u8
     requires { at < 60000 }
-    ensures { result ≤ 15 }
+    ensures { result ≤ 16 }
 {
     let capacity = pair_at(field, at);
     due((capacity < 1) | (capacity > 10000), 10)
 }
 
+// Method 3 has no flood zone.
 fn start_refusal(field: &[u8]) -> u8
-    ensures { result ≤ 15 }
+    ensures { result ≤ 16 }
 {
     let method = byte_at(field, 3);
-    let options = (byte_at(field, 4) > 1) | (byte_at(field, 5) > 2);
-    due((method < 1) | (method > 2) | options, 4)
+    let zone = byte_at(field, 5);
+    let options = (byte_at(field, 4) > 1) | (zone > 2) | ((method == 3) & (zone != 0));
+    due((method < 1) | (method > 3) | options, 4)
 }
 
-fn switch_refusal(field: &[u8], at: usize) -> u8
-    ensures { result ≤ 15 }
+// Method 3 has no ice: the switch is refused there, whatever its byte.
+fn switch_refusal(method: u8, field: &[u8], at: usize) -> u8
+    ensures { result ≤ 16 }
 {
-    due(byte_at(field, at) > 1, 4)
+    first(due(method == 3, 16), due(byte_at(field, at) > 1, 4))
 }
 
 // The factor of T, within the range of the method that the sheet has.
 fn straining_refusal(method: u8, field: &[u8], at: usize) -> u8
     requires { at < 60000 }
-    ensures { result ≤ 15 }
+    ensures { result ≤ 16 }
 {
     let factor = pair_at(field, at);
     if method == 1 {
@@ -115,21 +118,21 @@ fn straining_refusal(method: u8, field: &[u8], at: usize) -> u8
 }
 
 fn kind_refusal(field: &[u8], at: usize) -> u8
-    ensures { result ≤ 15 }
+    ensures { result ≤ 16 }
 {
     let kind = byte_at(field, at);
     due((kind < 1) | (kind > 14), 7)
 }
 
 fn component_refusal(field: &[u8], at: usize) -> u8
-    ensures { result ≤ 15 }
+    ensures { result ≤ 16 }
 {
     due(byte_at(field, at) > 2, 8)
 }
 
 // The body's values, from first to last.
 fn body_refusal(method: u8, field: &[u8]) -> u8
-    ensures { result ≤ 15 }
+    ensures { result ≤ 16 }
 {
     let case = case_refusal(field, 3);
     let station = station_refusal(field, 3);
@@ -148,7 +151,7 @@ fn body_refusal(method: u8, field: &[u8]) -> u8
             first(station, first(n, moments))
         }
         6 => first(station, component_refusal(field, 4)),
-        8 => switch_refusal(field, 3),
+        8 => switch_refusal(method, field, 3),
         9 => straining_refusal(method, field, 3),
         _ => station,
     }
@@ -156,7 +159,7 @@ fn body_refusal(method: u8, field: &[u8]) -> u8
 
 // What the sheet itself refuses: a place taken, a place empty, a station with no capacity.
 fn sheet_refusal(w: WorkingSheet, field: &[u8]) -> u8
-    ensures { result ≤ 15 }
+    ensures { result ≤ 16 }
 {
     let tag = byte_at(field, 0);
     let place = index_at(field, 3);
@@ -171,7 +174,7 @@ fn sheet_refusal(w: WorkingSheet, field: &[u8]) -> u8
 
 // The refusal due for a reading on this sheet, or 0.
 pub fn refusal_due(w: WorkingSheet, field: &[u8]) -> u8
-    ensures { result ≤ 15 }
+    ensures { result ≤ 16 }
 {
     let values = first(body_refusal(w.method, field), sheet_refusal(w, field));
     first(header_refusal(field), values)

@@ -1,8 +1,9 @@
-// The lines of the standard, kind by kind: which rows a sheet opens, and each kind's factor in a row, in thousandths. T alone has its
-// factor from the sheet.
+// The lines of the standard, kind by kind: which rows a sheet opens, and each kind's factor in a row, in thousandths or, in the rows of
+// method 3, in 21,000ths. T alone has its factor from the sheet.
 
-ghost use Rattle.std.specs.Prelude.{◌≡◌, ◌≤◌, max};
-ghost use Rattle.recheck_rows.specs.Rows.{between, strength_open, allowable_open, is_open, low_factor_of, self_straining};
+ghost use Rattle.std.specs.Prelude.{◌≡◌, true, ◌*◌, ◌≤◌, max};
+ghost use Rattle.recheck_rows.specs.Rows.{between, strength_open, allowable_open, alternative_open, is_open, unit_of, low_factor_of, self_straining};
+ghost use Rattle.recheck_rows.specs.Alternative.{dead_factor, live_factor, roof_factor, snow_factor, wind_factor, earthquake_factor, alternative_factor};
 
 fn between(n: u8, first: u8, last: u8) -> bool
     ensures { result ≡ between n first last }
@@ -28,6 +29,13 @@ fn allowable_open(row: u8, zone: u8, ice: u8) -> bool
         | (between(row, 41, 43) & (ice == 1))
 }
 
+// The alternative rows of the IBC, which method 3 opens: it has no flood zone and no ice.
+fn alternative_open(row: u8) -> bool
+    ensures { result ≡ alternative_open row }
+{
+    between(row, 51, 59)
+}
+
 // Whether a sheet of this method, flood zone and ice switch opens the row. Flood and ice rows come beside the plain ones.
 pub fn open(row: u8, method: u8, zone: u8, ice: u8) -> bool
     ensures { result ≡ is_open row method zone ice }
@@ -35,7 +43,17 @@ pub fn open(row: u8, method: u8, zone: u8, ice: u8) -> bool
     if method == 1 {
         return strength_open(row, zone, ice);
     }
-    allowable_open(row, zone, ice)
+    if method == 2 {
+        return allowable_open(row, zone, ice);
+    }
+    alternative_open(row)
+}
+
+// What stands for a factor of 1: in 21,000ths two thirds, 1/1.4 and 1.3 times 0.6 are whole numbers too.
+pub fn unit(method: u8) -> u64
+    ensures { result ≡ unit_of method }
+{
+    if method == 3 { 21000 } else { 1000 }
 }
 
 // The plain row that a flood or ice row is made from; a plain row is its own.
@@ -189,21 +207,102 @@ fn ice_wind(row: u8) -> u64
     }
 }
 
-// Every row but the first of each method has the sheet's factor for T, flood and ice rows too.
-fn self_straining(row: u8, straining: u16) -> u64
-    ensures value { result ≡ self_straining row straining }
-    ensures upper_bound { result ≤ straining }
+// Two thirds where wind counteracts the dead load.
+fn alternative_dead(row: u8) -> u64
+    ensures value { result ≡ dead_factor row }
+    ensures upper_bound { result ≤ 21000 }
 {
-    if (row == 1) | (row == 21) {
-        0
+    if (row == 53) | (row == 55) | (row == 57) {
+        return 14000;
+    }
+    if row == 59 { 18900 } else { 21000 }
+}
+
+fn alternative_live(row: u8) -> u64
+    ensures value { result ≡ live_factor row }
+    ensures upper_bound { result ≤ 21000 }
+{
+    if row == 59 { 0 } else { 21000 }
+}
+
+// Lr and R stand beside no wind and no earthquake.
+fn alternative_roof(row: u8) -> u64
+    ensures value { result ≡ roof_factor row }
+    ensures upper_bound { result ≤ 21000 }
+{
+    if row == 51 { 21000 } else { 0 }
+}
+
+fn alternative_snow(row: u8) -> u64
+    ensures value { result ≡ snow_factor row }
+    ensures upper_bound { result ≤ 21000 }
+{
+    if (row == 54) | (row == 55) {
+        return 10500;
+    }
+    if (row == 51) | between(row, 56, 58) {
+        21000
     } else {
-        straining as u64
+        0
     }
 }
 
-// The full factor of a kind in a row, 0 where the kind may not act there. Kind 0 is an empty place.
-pub fn factor(row: u8, kind: u8, option: u8, straining: u16) -> u64
-    ensures { result ≤ max 2000 straining }
+// The option says that allowable stresses were increased: the wind is then 1.3 times what it is otherwise.
+fn alternative_wind(row: u8, option: u8) -> u64
+    ensures value { result ≡ wind_factor row option }
+    ensures upper_bound { result ≤ 21000 }
+{
+    if between(row, 52, 55) {
+        return if option == 1 { 16380 } else { 12600 };
+    }
+    if between(row, 56, 57) {
+        return if option == 1 { 8190 } else { 6300 };
+    }
+    0
+}
+
+fn alternative_earthquake(row: u8) -> u64
+    ensures value { result ≡ earthquake_factor row }
+    ensures upper_bound { result ≤ 21000 }
+{
+    if (row == 58) | (row == 59) { 15000 } else { 0 }
+}
+
+// Every row but the first of methods 1 and 2 has the sheet's factor for T, flood and ice rows too. It is in thousandths, so it counts
+// 21 times in the rows of method 3.
+fn self_straining(row: u8, straining: u16) -> u64
+    ensures value { result ≡ self_straining row straining }
+    ensures upper_bound { result ≤ 21 * straining }
+{
+    let factor = straining as u64;
+    if alternative_open(row) {
+        return 21 * factor;
+    }
+    if (row == 1) | (row == 21) { 0 } else { factor }
+}
+
+// The factor of a kind in a row of method 3. Fluid and earth pressure have the full one, whatever the dead load has; flood and ice have
+// none.
+fn alternative_factor(row: u8, kind: u8, option: u8, straining: u16) -> u64
+    ensures value { result ≡ alternative_factor row kind option straining }
+    ensures upper_bound { result ≤ max 21000 (21 * straining) }
+{
+    match kind {
+        1 => alternative_dead(row),
+        2..=4 => 21000,
+        5 => alternative_live(row),
+        6 | 8 => alternative_roof(row),
+        7 => alternative_snow(row),
+        9 => alternative_wind(row, option),
+        10 => alternative_earthquake(row),
+        14 => self_straining(row, straining),
+        _ => 0,
+    }
+}
+
+// The factor of a kind in a row of ASCE 7-10.
+fn asce_factor(row: u8, kind: u8, option: u8, straining: u16) -> u64
+    ensures { result ≤ max 21000 (21 * straining) }
 {
     match kind {
         1 => dead(row),
@@ -222,9 +321,24 @@ pub fn factor(row: u8, kind: u8, option: u8, straining: u16) -> u64
     }
 }
 
-// The low factor of permanent earth pressure.
+// The full factor of a kind in a row, 0 where the kind may not act there. Kind 0 is an empty place.
+pub fn factor(row: u8, kind: u8, option: u8, straining: u16) -> u64
+    ensures value { alternative_open row ≡ true → result ≡ alternative_factor row kind option straining }
+    ensures upper_bound { result ≤ max 21000 (21 * straining) }
+{
+    if alternative_open(row) {
+        return alternative_factor(row, kind, option, straining);
+    }
+    asce_factor(row, kind, option, straining)
+}
+
+// The low factor of permanent earth pressure; 0 where there is none.
 pub fn low_factor(method: u8) -> u64
     ensures { result ≡ low_factor_of method }
 {
-    if method == 1 { 900 } else { 600 }
+    match method {
+        1 => 900,
+        2 => 600,
+        _ => 0,
+    }
 }

@@ -11,7 +11,7 @@ use Rattle.wire.specs.Bytes.{signed16}
 use Rattle.integers.proofs.Tests.{neither}
 use Rattle.standard.specs.declared.Settings.{Settings}
 use Rattle.standard.specs.Kinds.{kind_count}
-use Rattle.standard.specs.Range.{method_outside, live_outside, zone_outside, switch_outside, outside, straining_outside, SettingsInRange}
+use Rattle.standard.specs.Range.{is_alternative, method_outside, live_outside, zone_outside, switch_outside, ice_outside, outside, straining_outside, SettingsInRange}
 use Rattle.standard.specs.Rows.{settings_of}
 use Rattle.standard.specs.Combination.{case_count}
 use Rattle.standard.proofs.Facts.{kind_known, known_kind}
@@ -69,17 +69,24 @@ restored_factor : (t : Bool) → cond t (outside 1000 2000 1000) (outside 750 10
 restored_factor true = refl
 restored_factor false = refl
 
+-- ice off is in every method's range
+restored_ice : (t : Bool) → cond t (ltb 0 0) (switch_outside 0) ≡ false
+restored_ice true = refl
+restored_ice false = refl
+
 pub settings_range : (method live zone : ℕ) → due_settings method live zone ≡ 0 → SettingsInRange (settings_of method live zone)
 unfolding due_settings
 settings_range method live zone e =
     let a = none_due (method_outside method) 4 _ (lit< tt) e in
     let b = none_due (live_outside live) 4 _ (lit< tt) a.1 in
-    let c = none_due (zone_outside zone) 4 _ (lit< tt) b.1 in
-    record { method = a.0; live = b.0; zone = c.0; ice = refl; straining = restored_factor (eqb method 1) }
+    let c = none_due (zone_outside method zone) 4 _ (lit< tt) b.1 in
+    record { method = a.0; live = b.0; zone = c.0; ice = restored_ice (is_alternative method); straining = restored_factor (eqb method 1) }
 
-pub switch_range : (byte : ℕ) → due_switch byte ≡ 0 → switch_outside byte ≡ false
+pub switch_range : (method byte : ℕ) → due_switch method byte ≡ 0 → ice_outside method byte ≡ false
 unfolding due_switch
-switch_range byte e = (none_due (switch_outside byte) 4 0 (lit< tt) e).0
+switch_range method byte e =
+    let a = none_due (is_alternative method) 16 _ (lit< tt) e in
+    rw a.0 (none_due (switch_outside byte) 4 0 (lit< tt) a.1).0
 
 pub straining_range : (method factor : ℕ) → due_straining method factor ≡ 0 → straining_outside method factor ≡ false
 unfolding due_straining
@@ -143,9 +150,14 @@ pub settings_allowed : (s : Settings) → SettingsInRange s → due_settings s.m
 unfolding due_settings
 settings_allowed s h = rw (h.method, h.live, h.zone)
 
-pub switch_allowed : (s : Settings) → SettingsInRange s → due_switch s.ice ≡ 0
+-- ice is on in no sheet of method 3
+pub switch_allowed : (s : Settings) → SettingsInRange s → (s.ice ≡ 0 → ⊥) → due_switch s.method s.ice ≡ 0
 unfolding due_switch
-switch_allowed s h = rw h.ice
+switch_allowed s h on = by (is_alternative s.method) h.ice
+  where
+    by : (t : Bool) → cond t (ltb 0 s.ice) (switch_outside s.ice) ≡ false → ◌≡◌ {A = ℕ} (cond t 16 (cond (switch_outside s.ice) 4 0)) 0
+    by true e = absurd (let z : s.ice ≤ 0 = ltb-false 0 s.ice e in on (omega arith))
+    by false e = rw e
 
 pub straining_allowed : (s : Settings) → SettingsInRange s → due_straining s.method s.straining ≡ 0
 unfolding due_straining

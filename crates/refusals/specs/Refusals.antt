@@ -1,8 +1,8 @@
--- SCOPE 7.2: the refusals on body values, from first to last, and then 11, 12 or 13, as a list for each tag.
+-- SCOPE 7.2: for each tag 16, then the refusals on body values, from first to last, and then 11, 12 or 13, as a list.
 use Rattle.std.specs.Prelude.{ℕ, ◌-◌, Bool, cond, not, ◌||◌, List, [], ◌∷◌, ltb, eqb, nat_abs}
 use Rattle.wire.specs.Bytes.{signed16}
 use Rattle.standard.specs.Kinds.{class_of, unknown}
-use Rattle.standard.specs.Range.{method_outside, live_outside, zone_outside, switch_outside, straining_outside}
+use Rattle.standard.specs.Range.{is_alternative, method_outside, live_outside, zone_outside, switch_outside, straining_outside}
 use Rattle.standard.specs.Combination.{case_count}
 use Rattle.envelope.specs.Range.{effect_limit, capacity_limit, station_count, component_count}
 
@@ -34,6 +34,10 @@ pub record Refusal : Type 0 where
 abbrev pub on : Bool → ℕ → Refusal
 on due number = record { due = due; number = number }
 
+-- the numbers are those from 1 to 16 (SCOPE 7.1)
+abbrev pub last_refusal : ℕ
+last_refusal = 16
+
 -- the number of the first that is due, 0 where none is
 abbrev pub first_due : List Refusal → ℕ
 first_due [] = 0
@@ -41,7 +45,7 @@ first_due (r ∷ rs) = cond r.due r.number (first_due rs)
 
 -- tag 01: method, live option, zone
 abbrev pub settings_refusals : (method live zone : ℕ) → List Refusal
-settings_refusals method live zone = on (method_outside method) 4 ∷ on (live_outside live) 4 ∷ on (zone_outside zone) 4 ∷ []
+settings_refusals method live zone = on (method_outside method) 4 ∷ on (live_outside live) 4 ∷ on (zone_outside method zone) 4 ∷ []
 
 -- tag 02: case, kind; held is the kind at the place, 0 where it is empty
 abbrev pub fill_refusals : (held case kind : ℕ) → List Refusal
@@ -72,9 +76,9 @@ extremes_refusals station component = on (station_outside station) 6 ∷ on (com
 abbrev pub utilisation_refusals : (held station : ℕ) → List Refusal
 utilisation_refusals held station = on (station_outside station) 6 ∷ on (eqb held 0) 13 ∷ []
 
--- tag 08: 1 or 0
-abbrev pub switch_refusals : (byte : ℕ) → List Refusal
-switch_refusals byte = on (switch_outside byte) 4 ∷ []
+-- tag 08: not in method 3, by the method of the sheet; 1 or 0
+abbrev pub switch_refusals : (method byte : ℕ) → List Refusal
+switch_refusals method byte = on (is_alternative method) 16 ∷ on (switch_outside byte) 4 ∷ []
 
 -- tag 09: the factor of T, by the method of the sheet
 abbrev pub straining_refusals : (method factor : ℕ) → List Refusal
@@ -106,8 +110,8 @@ due_extremes station component = first_due (extremes_refusals station component)
 unfoldable pub due_utilisation_at : (held station : ℕ) → ℕ
 due_utilisation_at held station = first_due (utilisation_refusals held station)
 
-unfoldable pub due_switch : (byte : ℕ) → ℕ
-due_switch byte = first_due (switch_refusals byte)
+unfoldable pub due_switch : (method byte : ℕ) → ℕ
+due_switch method byte = first_due (switch_refusals method byte)
 
 unfoldable pub due_straining : (method factor : ℕ) → ℕ
 due_straining method factor = first_due (straining_refusals method factor)

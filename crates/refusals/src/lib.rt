@@ -1,6 +1,6 @@
 // The refusals on the values of a body: each function gives the number of the first that is due, or 0.
 ghost use Rattle.std.specs.Prelude.{◌≡◌, cond};
-ghost use Rattle.standard.specs.Range.{method_outside, outside, straining_outside};
+ghost use Rattle.standard.specs.Range.{method_outside, zone_outside, outside, straining_outside};
 ghost use Rattle.refusals.specs.Refusals.{effect_outside, capacity_outside, kind_outside, due_settings, due_fill_at, due_effects_at, due_empty_at, due_capacities, due_extremes, due_switch, due_straining, due_utilisation_at, due_name};
 
 use standard::Class;
@@ -48,7 +48,17 @@ fn kind_outside(n: u8) -> bool
 fn method_outside(n: u8) -> bool
     ensures { result ≡ method_outside n }
 {
-    n == 0 || 2 < n
+    n == 0 || 3 < n
+}
+
+// In method 3 there is no zone but 0.
+fn zone_outside(method: u8, zone: u8) -> bool
+    ensures { result ≡ zone_outside method zone }
+{
+    if standard::is_alternative(method) {
+        return 0 < zone;
+    }
+    2 < zone
 }
 
 fn outside(least: u16, most: u16, n: u16) -> bool
@@ -76,7 +86,7 @@ pub fn first(test: bool, number: u8, rest: u8) -> u8
 pub fn due_settings(method: u8, live: u8, zone: u8) -> u8
     ensures { result ≡ due_settings method live zone }
 {
-    let d = first(2 < zone, 4, 0);
+    let d = first(zone_outside(method, zone), 4, 0);
     let d = first(1 < live, 4, d);
     first(method_outside(method), 4, d)
 }
@@ -132,10 +142,13 @@ pub fn due_utilisation(station: u8, held: u16) -> u8
     first(LAST_STATION < station, 6, due)
 }
 
-pub fn due_switch(byte: u8) -> u8
-    ensures { result ≡ due_switch byte }
+// `method` is the sheet's.
+pub fn due_switch(method: u8, byte: u8) -> u8
+    ensures { result ≡ due_switch method byte }
 {
-    first(1 < byte, 4, 0)
+    let alternative = standard::is_alternative(method);
+    let d = first(1 < byte, 4, 0);
+    first(alternative, 16, d)
 }
 
 // `method` is the sheet's.

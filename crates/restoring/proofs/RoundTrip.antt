@@ -17,7 +17,7 @@ use Rattle.standard.specs.declared.Settings.{Settings}
 use Rattle.standard.specs.Rows.{switched, strained}
 use Rattle.sheet.specs.Sheet.{kind_at, effect_at, capacity_at, fresh, fresh_sheet, with_kind, with_effects, with_capacities, with_settings}
 use Rattle.sheet.specs.Range.{InRange, AllOrNone}
-use Rattle.refusals.specs.Refusals.{due_straining}
+use Rattle.refusals.specs.Refusals.{due_switch, due_straining}
 use Rattle.refusals.proofs.Fits.{CapacitiesFit, inside, settings_allowed, switch_allowed, straining_allowed, fill_allowed, effects_allowed, capacities_allowed}
 use Rattle.sheet.proofs.Kept.{fresh_kept}
 use Rattle.fields.proofs.Kept.{read_kept}
@@ -59,14 +59,14 @@ module _ (s : Sheet) (h : InRange s) where
   -- a field that changes one setting, and is left out where nothing would change
   setting_read : (n tag : ℕ) (body : List ℕ) (none : Bool) (change : Settings → Settings) → length body < 256 →
       (none ≡ true → settled n own ≡ change (settled n own)) →
-      ((p : Sheet) → p.settings ≡ settled n own → field_of p tag body ≡ accepted (with_settings p (change p.settings))) →
+      (none ≡ false → (p : Sheet) → p.settings ≡ settled n own → field_of p tag body ≡ accepted (with_settings p (change p.settings))) →
       change (settled n own) ≡ settled (suc n) own → Leads (Settled n s) (cond none [] (tag ∷ 0 ∷ length body ∷ body)) (Settled (suc n) s)
   unfolding with_settings fresh
   setting_read n tag body none change small same edit made =
       leads_unless none
       (λ e p r. record { is = r.is ∙ ap fresh (same e ∙ made) })
-      (λ _. leads_field tag body (λ p. with_settings p (change p.settings)) small
-      (λ p r. edit p (ap (λ (x : Sheet). x.settings) r.is))
+      (λ some. leads_field tag body (λ p. with_settings p (change p.settings)) small
+      (λ p r. edit some p (ap (λ (x : Sheet). x.settings) r.is))
       (λ p r. record { is = ap (λ (x : Sheet). with_settings x (change x.settings)) r.is ∙ ap fresh made }))
 
   switch_read : Leads (Settled 0 s) (switch_field own) (Settled 1 s)
@@ -74,14 +74,15 @@ module _ (s : Sheet) (h : InRange s) where
   switch_read =
       setting_read 0 8 (own.ice ∷ []) (eqb own.ice 0) (switched own.ice) (lit< tt)
       (λ e. rw (eqb-true own.ice 0 e))
-      (λ p _. switch_edit p own.ice (switch_allowed own h.settings)) refl
+      (λ some p e. switch_edit p own.ice
+      (ap (λ (x : Settings). due_switch x.method own.ice) e ∙ switch_allowed own h.settings (eqb-false own.ice 0 some))) refl
 
   straining_read : Leads (Settled 1 s) (straining_field own) (Settled 2 s)
   unfolding straining_field settled
   straining_read =
       setting_read 1 9 (word_bytes own.straining) (eqb own.straining 1000) (strained own.straining) (lit< tt)
       (λ e. rw (eqb-true own.straining 1000 e))
-      (λ p e. straining_edit p own.straining (ap (λ (x : Settings). due_straining x.method own.straining) e ∙ straining_allowed own h.settings)) refl
+      (λ _ p e. straining_edit p own.straining (ap (λ (x : Settings). due_straining x.method own.straining) e ∙ straining_allowed own h.settings)) refl
 
   all_settled : (p : Sheet) → Settled 2 s p → Partly s 0 0 0 p
   unfolding settled

@@ -22,7 +22,7 @@ use Rattle.standard.specs.declared.Settings.{Settings}
 use Rattle.standard.specs.Rows.{settings_of, switched, strained}
 use Rattle.sheet.specs.Sheet.{kind_at, effect_at, capacity_at, fresh, with_kind, with_effects, with_capacities, with_switch, with_straining}
 use Rattle.refusals.specs.Refusals.{due_settings, due_fill_at, due_effects_at, due_capacities, due_switch, due_straining}
-use Rattle.sheet.specs.Edits.{due_fill, due_effects, due_factor, unless_refused}
+use Rattle.sheet.specs.Edits.{due_fill, due_effects, due_ice, due_factor, unless_refused}
 use Rattle.sheet.specs.Range.{InRange}
 use Rattle.sheet.proofs.Access.{WellFormed, well_formed, fresh_formed, kind_formed, effects_formed, capacities_formed, kind_filled, kind_other, effect_cleared, effect_kept, kind_leaves_capacity, kind_leaves_settings, effect_replaced, effect_other, effects_leave_kind, effects_leave_capacity, effects_leave_settings, capacity_replaced, capacity_other, capacities_leave_kind, capacities_leave_effect, capacities_leave_settings, fresh_settings_lem, fresh_kind, fresh_effect, fresh_capacity, same_sheet}
 use Rattle.sheet.proofs.Refusals.{tried_none}
@@ -38,9 +38,9 @@ pub settings_edit : (s : Sheet) (m l z : ℕ) → due_settings m l z ≡ 0 →
 unfolding field_of due_header length_of run_of unless_refused due_settings
 settings_edit s m l z e = ap edited (sym (tried_none (due_settings m l z) s _ e refl))
 
-pub switch_edit : (s : Sheet) (byte : ℕ) → due_switch byte ≡ 0 → field_of s 8 (byte ∷ []) ≡ accepted (with_switch s byte)
+pub switch_edit : (s : Sheet) (byte : ℕ) → due_ice s byte ≡ 0 → field_of s 8 (byte ∷ []) ≡ accepted (with_switch s byte)
 unfolding field_of due_header length_of run_of unless_refused due_switch
-switch_edit s byte e = ap edited (sym (tried_none (due_switch byte) s _ e refl))
+switch_edit s byte e = ap edited (sym (tried_none (due_ice s byte) s _ e refl))
 
 pub fill_edit : (s : Sheet) (k v : ℕ) → due_fill s k v ≡ 0 → field_of s 2 (k ∷ v ∷ []) ≡ accepted (with_kind s k v)
 unfolding field_of due_header length_of run_of unless_refused due_fill_at

@@ -23,8 +23,8 @@ use Rattle.sheet.specs.declared.Sheet.{Sheet}
 use Rattle.sheet.specs.Sheet.{kind_at, effect_at, capacity_at, fresh, fresh_sheet, with_kind, with_effects, with_capacities, with_settings, with_switch, with_straining}
 use Rattle.effects.specs.Effects.{place}
 use Rattle.effects.proofs.Stored.{Within, cleared_within}
-use Rattle.refusals.specs.Refusals.{due_settings, due_capacities, due_switch}
-use Rattle.sheet.specs.Edits.{due_fill, due_effects, due_empty, due_factor, unless_refused}
+use Rattle.refusals.specs.Refusals.{due_settings, due_capacities}
+use Rattle.sheet.specs.Edits.{due_fill, due_effects, due_empty, due_ice, due_factor, unless_refused}
 use Rattle.sheet.specs.Range.{InRange, AllOrNone}
 use Rattle.refusals.proofs.Fits.{settings_range, switch_range, straining_range, fill_range, effects_range, empty_range, capacities_range}
 use Rattle.sheet.proofs.Access.{well_formed, fresh_formed, kind_formed, effects_formed, capacities_formed, kind_other, effect_cleared, effect_kept, effect_other, capacity_replaced, capacity_other, fresh_kind, fresh_settings_lem, fresh_stored, fresh_effect, fresh_capacity}
@@ -153,11 +153,11 @@ settings_kept s settings h range =
       capacities_whole = h.capacities_whole;
     }
 
-pub switch_kept : (s : Sheet) (byte : ℕ) → InRange s → due_switch byte ≡ 0 → InRange (with_switch s byte)
+pub switch_kept : (s : Sheet) (byte : ℕ) → InRange s → due_ice s byte ≡ 0 → InRange (with_switch s byte)
 switch_kept s byte h e =
     let r = h.settings in
     settings_kept s (switched byte s.settings) h
-    (record { method = r.method; live = r.live; zone = r.zone; ice = switch_range byte e; straining = r.straining })
+    (record { method = r.method; live = r.live; zone = r.zone; ice = switch_range s.settings.method byte e; straining = r.straining })
 
 pub straining_kept : (s : Sheet) (factor : ℕ) → InRange s → due_factor s factor ≡ 0 → InRange (with_straining s factor)
 straining_kept s factor h e =

@@ -65,8 +65,8 @@ module _ (s : Settings) (kind : ℕ → ℕ) where
       exact = sym (used_agrees c) ∙ u.exact;
       over = u.over;
       verdict = (
-        λ t x ok. subst (λ (a : ℕ). a ≤ denominator_of p) (used_agrees x) (u.verdict.0 t x ok),
-        λ all. u.verdict.1 (λ x ok. subst (λ (a : ℕ). a ≤ denominator_of p) (sym (used_agrees x)) (all x ok)),
+        λ t x ok. subst (λ (a : ℕ). a ≤ denominator_of s p) (used_agrees x) (u.verdict.0 t x ok),
+        λ all. u.verdict.1 (λ x ok. subst (λ (a : ℕ). a ≤ denominator_of s p) (sym (used_agrees x)) (all x ok)),
       );
     }
 

@@ -1,6 +1,6 @@
 -- An edit of a sheet: the first refusal that is due, by the refusals of its tag (SCOPE 7.2), and the sheet after it (SCOPE 5.2, 7.3).
 use Rattle.std.specs.Prelude.{ℕ, cond, eqb}
-use Rattle.refusals.specs.Refusals.{due_fill_at, due_effects_at, due_empty_at, due_straining}
+use Rattle.refusals.specs.Refusals.{due_fill_at, due_effects_at, due_empty_at, due_switch, due_straining}
 use Rattle.sheet.specs.declared.Sheet.{Sheet}
 use Rattle.sheet.specs.declared.Edited.{Edited}
 use Rattle.sheet.specs.Sheet.{kind_at}
@@ -15,7 +15,10 @@ due_effects s case station n y z = due_effects_at (kind_at s case) case station 
 abbrev pub due_empty : Sheet → ℕ → ℕ
 due_empty s case = due_empty_at (kind_at s case) case
 
--- tag 09, whose refusal looks at the method
+-- tags 08 and 09, whose refusals look at the method
+abbrev pub due_ice : Sheet → ℕ → ℕ
+due_ice s byte = due_switch s.settings.method byte
+
 abbrev pub due_factor : Sheet → ℕ → ℕ
 due_factor s factor = due_straining s.settings.method factor
 

@@ -5,12 +5,12 @@ ghost use Rattle.wire.specs.Bytes.{signed16};
 ghost use Rattle.standard.specs.Combination.{case_count};
 ghost use Rattle.standard.specs.Rows.{settings_of};
 ghost use Rattle.envelope.specs.Range.{station_count, component_count};
-ghost use Rattle.refusals.specs.Refusals.{due_settings, due_capacities, due_extremes, due_switch, due_name};
+ghost use Rattle.refusals.specs.Refusals.{due_settings, due_capacities, due_extremes, due_name};
 ghost use Rattle.sheet.specs.Sheet.{fresh, with_kind, with_effects, with_capacities, with_settings, with_switch, with_straining};
 ghost use Rattle.sheet.specs.Range.{InRange};
 ghost use Rattle.sheet.specs.Looks.{extremes_at, utilisation_at, unless_due, edited, due_utilisation, looked_extremes, looked_utilisation, ExtremesPromised, UtilisationPromised};
 ghost use Rattle.sheet.specs.Parts.{rest_of, whole, whole_of};
-ghost use Rattle.sheet.specs.Edits.{due_fill, due_effects, due_empty, due_factor, unless_refused};
+ghost use Rattle.sheet.specs.Edits.{due_fill, due_effects, due_empty, due_ice, due_factor, unless_refused};
 
 use dead_sums::{DEAD_SUMS, DeadSums, STATION_SUMS};
 use effects::{COMPONENTS, EFFECTS, Effects, STATION_EFFECTS, STATIONS};
@@ -152,7 +152,7 @@ impl Sheet {
 
     // Tag 08.
     pub fn switch_ice(self, byte: u8) -> Answered
-        ensures { result ≡ edited (unless_refused (due_switch byte) self (with_switch self byte)) }
+        ensures { result ≡ edited (unless_refused (due_ice self byte) self (with_switch self byte)) }
     {
         let effects = self.effects;
         let sums = self.sums;
@@ -432,10 +432,10 @@ impl Rest {
 
     // Tag 08.
     pub fn switch_ice(self, byte: u8) -> AnsweredRest
-        ensures { (effects sums : List ℤ) → whole_of result effects sums ≡ edited (unless_refused (due_switch byte) (whole self effects sums) (with_switch (whole self effects sums) byte)) }
+        ensures { (effects sums : List ℤ) → whole_of result effects sums ≡ edited (unless_refused (due_ice (whole self effects sums) byte) (whole self effects sums) (with_switch (whole self effects sums) byte)) }
     {
         let settings = self.settings;
-        let due = refusals::due_switch(byte);
+        let due = refusals::due_switch(settings.method, byte);
         self.replace_settings(due, settings.switched(byte))
     }
 

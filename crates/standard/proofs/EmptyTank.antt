@@ -45,4 +45,5 @@ module _ (s : Settings) (kind : ℕ → ℕ) where
         single = λ g j k p q a b. ok.single g j k p q (acts c j a) (acts c k b);
         low_acts = λ k l. and_both (c.acting k) (dry k) (ok.low_acts k l) (not_fluid (kind k) (earth_acts (kind k) (ok.low_earth k l)));
         low_earth = ok.low_earth;
+        low_method = ok.low_method;
       }

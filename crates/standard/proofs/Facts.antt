@@ -2,9 +2,9 @@
 -- Assumes nothing.
 use mathlib.Core.List.{List, [], ◌∷◌, ◌++◌}
 use mathlib.Core.Path.{◌≡◌, refl, sym, ap, ◌∙◌, subst}
-use mathlib.Core.Bool.{Bool, true, false, false≢true, cond, ◌&&◌, ◌||◌}
+use mathlib.Core.Bool.{Bool, true, false, false≢true, cond, not, ◌&&◌, ◌||◌}
 use mathlib.Core.Logic.{◌⊎◌, inl, inr}
-use Prim.Native.Nat.{ℕ, zero, suc, ◌-◌, ◌≤◌, ◌<◌}
+use Prim.Native.Nat.{ℕ, zero, suc, ◌*◌, ◌-◌, ◌≤◌, ◌<◌}
 use native.Mathlib.Decide.{dec_lt}
 use native.Mathlib.Omega.{arith}
 use borrow.Author.Tests.{ltb-false, lt-ltb}
@@ -12,14 +12,14 @@ use lib.Dec.{T, eqb, leb, ltb, leb→le, ltb→lt, eqb→eq}
 use lib.ListN.{length, get_or, get_or-eq_default}
 use Rattle.integers.specs.Sets.{has}
 use Rattle.integers.proofs.Masks.{bit_in_mask}
-use Rattle.integers.proofs.Tests.{and_left, and_right, and_both, or_cases, neither}
+use Rattle.integers.proofs.Tests.{and_left, and_right, and_both, or_cases, alike, alike_eq, refuted, neither}
 use Rattle.integers.proofs.Sums.{eqb_cases}
 use Rattle.standard.specs.declared.Settings.{Settings}
 use Rattle.standard.specs.declared.Class.{Class}
 use Rattle.standard.specs.declared.Class.TheVariants.{Always, Together, Subset, OneOf, Unknown}
 use Rattle.standard.specs.Kinds.{classes, class_of, unknown, kind_count, group_count, permanent_earth, self_straining}
-use Rattle.standard.specs.Range.{outside, method_outside, SettingsInRange}
-use Rattle.standard.specs.Rows.{Live, num, f, Line, blank, lines, live_factor, roof_factor, snow_factor, columns, row_count, fresh_settings, table_factor, straining_in, factor_of, low_of, Span, rows_to, plain_rows, by_zone, flood_rows, by_ice, ice_rows, open_rows, within, in_spans}
+use Rattle.standard.specs.Range.{is_alternative, outside, method_outside, SettingsInRange}
+use Rattle.standard.specs.Rows.{Factor, Line, blank, lines, factor_by, roof_factor, snow_factor, columns, row_count, fresh_settings, per_thousandth, unit_of, unit_most, table_factor, straining_in, factor_of, has_low, low_of, Span, rows_to, by_method, plain_rows, by_zone, flood_rows, by_ice, ice_rows, open_rows, within, in_spans}
 use Rattle.standard.specs.Columns.{kinds_in}
 use Rattle.standard.proofs.Table.{tabulate, same_at, all, all_at, all₂, all₂-at}
 
@@ -33,45 +33,69 @@ by_kind : (P : ℕ → Type 0) (s : Settings) (r k : ℕ) → (k ≡ self_strain
 unfolding factor_of
 by_kind P s r k p q = eqb_cases k self_straining (λ t. P (cond t (straining_in s r) (table_factor (eqb s.live 1) r k))) p (λ _. q)
 
--- the sheet's, by the range of the settings
-straining_limits : (s : Settings) → SettingsInRange s → (0 < s.straining) × (s.straining ≤ 2000)
-straining_limits s h = go (eqb s.method 1) h.straining
+-- no unit is above the greatest
+pub per_thousandth_le : (s : Settings) → per_thousandth s ≤ 21
+per_thousandth_le s = of_both (λ x. x ≤ 21) (is_alternative s.method) 21 1 (omega arith) (omega arith)
+
+pub unit_le : (s : Settings) → unit_of s ≤ unit_most
+unfolding unit_of
+unit_le s = omega (arith, per_thousandth_le s)
+
+-- what is within its limits
+within_limits : (least most x : ℕ) → outside least most x ≡ false → (least ≤ x) × (x ≤ most)
+within_limits least most x e = let n = neither (ltb x least) (ltb most x) e in (ltb-false x least n.0, ltb-false most x n.1)
+
+pub straining_le : (s : Settings) → SettingsInRange s → s.straining ≤ 2000
+straining_le s h = go (eqb s.method 1) h.straining
   where
     x : ℕ
     x = s.straining
 
-    within : (least most : ℕ) → outside least most x ≡ false → (least ≤ x) × (x ≤ most)
-    within least most e = let n = neither (ltb x least) (ltb most x) e in (ltb-false x least n.0, ltb-false most x n.1)
+    go : (t : Bool) → cond t (outside 1000 2000 x) (outside 750 1000 x) ≡ false → x ≤ 2000
+    go true e = (within_limits 1000 2000 x e).1
+    go false e = omega (arith, (within_limits 750 1000 x e).1)
 
-    go : (t : Bool) → cond t (outside 1000 2000 x) (outside 750 1000 x) ≡ false → (0 < x) × (x ≤ 2000)
-    go true e = let w = within 1000 2000 e in (omega (arith, w.0), w.1)
-    go false e = let w = within 750 1000 e in (omega (arith, w.0), omega (arith, w.1))
+-- the sheet's in the unit of the method, by the range of the settings
+straining_limits : (s : Settings) → SettingsInRange s → (0 < per_thousandth s * s.straining) × (per_thousandth s * s.straining ≤ unit_most)
+straining_limits s h =
+    eqb_cases s.method 1 (λ t. cond t (outside 1000 2000 x) (outside 750 1000 x) ≡ false → Within (per_thousandth s))
+    (λ e q. let w = within_limits 1000 2000 x q in rw e (omega (arith, w.0), omega (arith, w.1)))
+    (λ _ q. let w = within_limits 750 1000 x q in
+    of_both Within (is_alternative s.method) 21 1 (omega (arith, w.0), omega (arith, w.1)) (omega (arith, w.0), omega (arith, w.1)))
+    h.straining
+  where
+    x : ℕ
+    x = s.straining
 
--- no factor of the line is above 2000
+    Within : ℕ → Type 0
+    Within n = (0 < n * x) × (n * x ≤ unit_most)
+
+-- no factor of the line is above the greatest unit
 small : Bool → Line → Bool
-small halved l = all (λ x. leb x 2000) (columns halved l)
+small option l = all (λ x. leb x unit_most) (columns option l)
 
-small_lines : (halved : Bool) → T (small halved blank) × T (all (small halved) lines)
+small_lines : (option : Bool) → T (small option blank) × T (all (small option) lines)
 unfolding small
 small_lines true = (tt, tt)
 small_lines false = (tt, tt)
 
-table_le : (halved : Bool) (r k : ℕ) → table_factor halved r k ≤ 2000
+table_le : (option : Bool) (r k : ℕ) → table_factor option r k ≤ unit_most
 unfolding small
-table_le halved r k =
+table_le option r k =
     leb→le _ _
-    (all_at (λ x. leb x 2000) (columns halved (get_or lines r blank)) 0 tt
-    (all_at (small halved) lines blank (small_lines halved).0 (small_lines halved).1 r) k)
+    (all_at (λ x. leb x unit_most) (columns option (get_or lines r blank)) 0 tt
+    (all_at (small option) lines blank (small_lines option).0 (small_lines option).1 r) k)
 
-pub factor_le : (s : Settings) (r k : ℕ) → SettingsInRange s → factor_of s r k ≤ 2000
+pub factor_le : (s : Settings) (r k : ℕ) → SettingsInRange s → factor_of s r k ≤ unit_most
 factor_le s r k h =
-    by_kind (λ x. x ≤ 2000) s r k
-    (λ _. of_both (λ x. x ≤ 2000) (eqb r 1 || eqb r 21) 0 s.straining (omega arith) (straining_limits s h).1)
+    by_kind (λ x. x ≤ unit_most) s r k
+    (λ _. of_both (λ x. x ≤ unit_most) (eqb r 1 || eqb r 21) 0 (per_thousandth s * s.straining) (omega arith) (straining_limits s h).1)
     (table_le (eqb s.live 1) r k)
 
-low_le_900 : (s : Settings) → low_of s ≤ 900
+low_le_900 : (s : Settings) → T (has_low s) → low_of s ≤ 900
 unfolding low_of
-low_le_900 s = of_both (λ x. x ≤ 900) (eqb s.method 1) 900 600 (omega arith) (omega arith)
+low_le_900 s h =
+    rw (refuted (is_alternative s.method) h) (of_both (λ x. x ≤ 900) (eqb s.method 1) 900 600 (omega arith) (omega arith))
 
 -- a factor for earth is none, or no less than the greatest low factor
 earth_test : ℕ → Bool
@@ -83,11 +107,18 @@ unfolding earth_test
 earth_ge_900 zero h t = absurd (omega arith)
 earth_ge_900 (suc x) h t = leb→le _ _ t
 
-pub low_le_full : (s : Settings) (r : ℕ) → 0 < factor_of s r permanent_earth → low_of s ≤ factor_of s r permanent_earth
+pub low_le_full : (s : Settings) (r : ℕ) → T (has_low s) → 0 < factor_of s r permanent_earth → low_of s ≤ factor_of s r permanent_earth
 unfolding factor_of earth_test
-low_le_full s r h =
+low_le_full s r l h =
     omega
-    (arith, low_le_900 s, earth_ge_900 (factor_of s r permanent_earth) h (all_at (λ l. earth_test l.earth) lines blank tt tt r))
+    (arith, low_le_900 s l, earth_ge_900 (factor_of s r permanent_earth) h (all_at (λ l. earth_test l.earth) lines blank tt tt r))
+
+-- where there is no low factor, what stands for it is no less than any full one
+pub full_le_low : (s : Settings) (r : ℕ) → has_low s ≡ false → factor_of s r permanent_earth ≤ low_of s
+unfolding factor_of low_of
+full_le_low s r h =
+    eqb_cases s.method 3 (λ t. not t ≡ false → factor_of s r permanent_earth ≤ cond (eqb s.method 1) 900 (cond t 21000 600))
+    (λ e _. rw e (table_le (eqb s.live 1) r permanent_earth)) (λ _ q. absurd (false≢true (sym q))) h
 
 -- the table has no column for the last kind
 padded : (xs : List ℕ) (k : ℕ) → get_or (xs ++ (0 ∷ [])) k 0 ≡ get_or xs k 0
@@ -97,11 +128,11 @@ padded (x ∷ xs) zero = refl
 padded (x ∷ xs) (suc k) = padded xs k
 
 -- so what a test finds of each class and column holds of each kind
-by_columns : (P : Class → ℕ → Bool) (halved : Bool) (l : Line) → T (P Unknown 0) → T (all₂ P classes (columns halved l ++ (0 ∷ []))) →
-    (k : ℕ) → T (P (class_of k) (get_or (columns halved l) k 0))
+by_columns : (P : Class → ℕ → Bool) (option : Bool) (l : Line) → T (P Unknown 0) → T (all₂ P classes (columns option l ++ (0 ∷ []))) →
+    (k : ℕ) → T (P (class_of k) (get_or (columns option l) k 0))
 unfolding class_of
-by_columns P halved l none t k =
-    subst (λ (x : ℕ). T (P (class_of k) x)) (padded (columns halved l) k) (all₂-at P classes (columns halved l ++ (0 ∷ [])) Unknown 0 none t k)
+by_columns P option l none t k =
+    subst (λ (x : ℕ). T (P (class_of k) x)) (padded (columns option l) k) (all₂-at P classes (columns option l ++ (0 ∷ [])) Unknown 0 none t k)
 
 straining_class : (k : ℕ) → k ≡ self_straining → class_of k ≡ Subset
 unfolding class_of
@@ -172,13 +203,14 @@ joined (p ∷ ps) qs a b =
 open_in_table : (s : Settings) → AllInTable (open_rows s)
 unfolding open_rows plain_rows flood_rows ice_rows in_table
 open_in_table s =
-    joined (plain_rows s) (flood_rows s ++ ice_rows s) (by_method_lem (rows_to 1 8 ∷ []) (rows_to 21 30 ∷ []) tt tt)
+    joined (plain_rows s) (flood_rows s ++ ice_rows s) (by_method_lem (rows_to 1 8 ∷ []) (rows_to 21 30 ∷ []) (rows_to 51 59 ∷ []) tt tt tt)
     (joined (flood_rows s) (ice_rows s)
-    (by_method_lem (by_zone s (rows_to 9 10) (rows_to 11 12)) (by_zone s (rows_to 31 35) (rows_to 36 40)) (by_zone_lem (rows_to 9 10) (rows_to 11 12) tt tt) (by_zone_lem (rows_to 31 35) (rows_to 36 40) tt tt))
-    (by_method_lem (by_ice s (rows_to 13 15)) (by_ice s (rows_to 41 43)) (by_ice_lem (rows_to 13 15) tt) (by_ice_lem (rows_to 41 43) tt)))
+    (by_method_lem (by_zone s (rows_to 9 10) (rows_to 11 12)) (by_zone s (rows_to 31 35) (rows_to 36 40)) [] (by_zone_lem (rows_to 9 10) (rows_to 11 12) tt tt) (by_zone_lem (rows_to 31 35) (rows_to 36 40) tt tt) tt)
+    (by_method_lem (by_ice s (rows_to 13 15)) (by_ice s (rows_to 41 43)) [] (by_ice_lem (rows_to 13 15) tt) (by_ice_lem (rows_to 41 43) tt) tt))
   where
-    by_method_lem : (ps qs : List Span) → AllInTable ps → AllInTable qs → AllInTable (cond (eqb s.method 1) ps (cond (eqb s.method 2) qs []))
-    by_method_lem ps qs a b = of_both AllInTable (eqb s.method 1) ps (cond (eqb s.method 2) qs []) a (of_both AllInTable (eqb s.method 2) qs [] b tt)
+    by_method_lem : (ps qs rs : List Span) → AllInTable ps → AllInTable qs → AllInTable rs → AllInTable (by_method s ps qs rs)
+    by_method_lem ps qs rs a b c =
+        of_both AllInTable (eqb s.method 1) ps _ a (of_both AllInTable (eqb s.method 2) qs _ b (of_both AllInTable (is_alternative s.method) rs [] c tt))
 
     by_ice_lem : (p : Span) → AllInTable (p ∷ []) → AllInTable (by_ice s p)
     by_ice_lem p a = of_both AllInTable (eqb s.ice 1) (p ∷ []) [] a tt
@@ -214,6 +246,15 @@ begins s p ps e =
       below = spans_below (p ∷ ps) a;
     }
 
+-- a method is one of the three
+pub three_methods : (m : ℕ) → method_outside m ≡ false → (m ≡ 1) ⊎ ((m ≡ 2) ⊎ (m ≡ 3))
+three_methods zero q = absurd (false≢true (sym q))
+three_methods (suc zero) q = inl refl
+three_methods (suc (suc zero)) q = inr (inl refl)
+three_methods (suc (suc (suc zero))) q = inr (inr refl)
+three_methods (suc (suc (suc (suc m)))) q =
+    absurd (omega (arith, ltb-false 3 (suc (suc (suc (suc m)))) (neither (eqb (suc (suc (suc (suc m)))) 0) (ltb 3 (suc (suc (suc (suc m))))) q).1))
+
 -- the method opens some rows
 some : List Span → Bool
 some [] = false
@@ -221,32 +262,38 @@ some (p ∷ ps) = true
 
 pub some_open : (s : Settings) → SettingsInRange s → open_rows s ≡ [] → ⊥
 unfolding open_rows plain_rows some
-some_open s h e = subst (λ (ps : List Span). T (some ps)) e (known (by_number s.method h.method))
+some_open s h e = subst (λ (ps : List Span). T (some ps)) e (known (three_methods s.method h.method))
   where
-    by_number : (m : ℕ) → method_outside m ≡ false → (m ≡ 1) ⊎ (m ≡ 2)
-    by_number zero q = absurd (false≢true (sym q))
-    by_number (suc zero) q = inl refl
-    by_number (suc (suc zero)) q = inr refl
-    by_number (suc (suc (suc m))) q = absurd (omega (arith, ltb-false 2 (suc (suc (suc m))) (neither (eqb (suc (suc (suc m))) 0) (ltb 2 (suc (suc (suc m)))) q).1))
-
-    known : (s.method ≡ 1) ⊎ (s.method ≡ 2) → T (some (open_rows s))
+    known : (s.method ≡ 1) ⊎ ((s.method ≡ 2) ⊎ (s.method ≡ 3)) → T (some (open_rows s))
     known (inl q) = rw q tt
-    known (inr q) = rw q tt
+    known (inr (inl q)) = rw q tt
+    known (inr (inr q)) = rw q tt
 
 -- ---- the kinds of a row
--- the live option gives L another factor, and never takes it away
-live_stays : (l : Line) (halved : Bool) (k : ℕ) → k < self_straining → ltb 0 (get_or (columns false l) k 0) ≡ ltb 0 (get_or (columns halved l) k 0)
-live_stays l false k h = refl
-live_stays l true k h =
+-- the live option gives L or W another factor, and never takes it away
+keeps : Factor → Bool
+keeps v = alike (ltb 0 (factor_by false v)) (ltb 0 (factor_by true v))
+
+keeps_line : Line → Bool
+keeps_line l = keeps l.live && keeps l.wind
+
+option_stays : (l : Line) → T (keeps_line l) → (option : Bool) (k : ℕ) → k < self_straining → ltb 0 (get_or (columns false l) k 0) ≡ ltb 0 (get_or (columns option l) k 0)
+unfolding keeps keeps_line
+option_stays l t false k h = refl
+option_stays l t true k h =
     same_at (λ j. ltb 0 (get_or (columns false l) j 0)) (λ j. ltb 0 (get_or (columns true l) j 0)) 0 self_straining k (λ i. ltb 0 0
     ∷ ltb 0 l.dead ∷ ltb 0 l.fluid ∷ ltb 0 l.earth ∷ ltb 0 l.earth
-    ∷ stays l.live i
+    ∷ stays l.live (and_left (keeps l.live) (keeps l.wind) t) i
     ∷ ltb 0 (roof_factor l.roof) ∷ ltb 0 (snow_factor l.roof) ∷ ltb 0 (roof_factor l.roof)
-    ∷ ltb 0 l.wind ∷ ltb 0 l.quake ∷ ltb 0 l.flood ∷ ltb 0 l.ice ∷ ltb 0 l.icewind ∷ []) (omega arith) (omega arith)
+    ∷ stays l.wind (and_right (keeps l.live) (keeps l.wind) t) i
+    ∷ ltb 0 l.quake ∷ ltb 0 l.flood ∷ ltb 0 l.ice ∷ ltb 0 l.icewind ∷ []) (omega arith) (omega arith)
   where
-    stays : (v : Live) → ltb 0 (live_factor false v) ≡ ltb 0 (live_factor true v)
-    stays (num x) = refl
-    stays f = refl
+    stays : (v : Factor) → T (keeps v) → ltb 0 (factor_by false v) ≡ ltb 0 (factor_by true v)
+    stays v = alike_eq (ltb 0 (factor_by false v)) (ltb 0 (factor_by true v))
+
+keeps_row : (r : ℕ) → T (keeps_line (get_or lines r blank))
+unfolding keeps keeps_line
+keeps_row r = all_at keeps_line lines blank tt tt r
 
 -- nor does another factor of T
 straining_stays : (none : Bool) (x y : ℕ) → 0 < x → 0 < y → ltb 0 (cond none 0 x) ≡ ltb 0 (cond none 0 y)
@@ -258,50 +305,50 @@ unfolding kinds_in factor_of
 kind_in s r k range h =
     bit_in_mask kind_count (λ j. ltb 0 (factor_of fresh_settings r j)) k h
     ∙ eqb_cases k self_straining (λ t. ltb 0 (cond t (straining_in fresh_settings r) (table_factor false r k)) ≡ ltb 0 (cond t (straining_in s r) (table_factor (eqb s.live 1) r k)))
-    (λ _. straining_stays (eqb r 1 || eqb r 21) 1000 s.straining (omega arith) (straining_limits s range).0)
-    (λ ne. live_stays (get_or lines r blank) (eqb s.live 1) k (omega arith))
+    (λ _. straining_stays (eqb r 1 || eqb r 21) 1000 (per_thousandth s * s.straining) (omega arith) (straining_limits s range).0)
+    (λ ne. option_stays (get_or lines r blank) (keeps_row r) (eqb s.live 1) k (omega arith))
 
 -- the kinds of a group that have a factor in a row have the same one
-group_factor : Line → ℕ → ℕ
-group_factor l g = get_or (snow_factor l.roof ∷ l.wind ∷ l.quake ∷ l.flood ∷ l.ice ∷ l.icewind ∷ []) g 0
+group_factor : Bool → Line → ℕ → ℕ
+group_factor option l g = get_or (snow_factor l.roof ∷ factor_by option l.wind ∷ l.quake ∷ l.flood ∷ l.ice ∷ l.icewind ∷ []) g 0
 
-shared_test : Line → Class → ℕ → Bool
-shared_test l Always x = true
-shared_test l Together x = true
-shared_test l Subset x = true
-shared_test l (OneOf g) x = eqb x 0 || eqb x (group_factor l g)
-shared_test l Unknown x = true
+shared_test : Bool → Line → Class → ℕ → Bool
+shared_test option l Always x = true
+shared_test option l Together x = true
+shared_test option l Subset x = true
+shared_test option l (OneOf g) x = eqb x 0 || eqb x (group_factor option l g)
+shared_test option l Unknown x = true
 
 shared_line : Bool → Line → Bool
-shared_line halved l = all₂ (shared_test l) classes (columns halved l ++ (0 ∷ []))
+shared_line option l = all₂ (shared_test option l) classes (columns option l ++ (0 ∷ []))
 
-shared_lines : (halved : Bool) → T (shared_line halved blank) × T (all (shared_line halved) lines)
+shared_lines : (option : Bool) → T (shared_line option blank) × T (all (shared_line option) lines)
 unfolding shared_line shared_test group_factor
 shared_lines true = (tt, tt)
 shared_lines false = (tt, tt)
 
-pub shared_factor : ℕ → ℕ → ℕ
-shared_factor r g = group_factor (get_or lines r blank) g
+pub shared_factor : Settings → ℕ → ℕ → ℕ
+shared_factor s r g = group_factor (eqb s.live 1) (get_or lines r blank) g
 
-pub shared_factor_lem : (s : Settings) (r k g : ℕ) → class_of k ≡ OneOf g → 0 < factor_of s r k → factor_of s r k ≡ shared_factor r g
+pub shared_factor_lem : (s : Settings) (r k g : ℕ) → class_of k ≡ OneOf g → 0 < factor_of s r k → factor_of s r k ≡ shared_factor s r g
 unfolding shared_line shared_test shared_factor
-shared_factor_lem s r k g c = by_kind (λ x. 0 < x → x ≡ group_factor l g) s r k
+shared_factor_lem s r k g c = by_kind (λ x. 0 < x → x ≡ group_factor option l g) s r k
     (λ q. absurd (false≢true (ap alone (sym (straining_class k q) ∙ c))))
-    (λ h. go h (or_cases (eqb x 0) (eqb x (group_factor l g)) test))
+    (λ h. go h (or_cases (eqb x 0) (eqb x (group_factor option l g)) test))
   where
     l : Line
     l = get_or lines r blank
 
-    halved : Bool
-    halved = eqb s.live 1
+    option : Bool
+    option = eqb s.live 1
 
     x : ℕ
-    x = table_factor halved r k
+    x = table_factor option r k
 
-    test : T (shared_test l (OneOf g) x)
+    test : T (shared_test option l (OneOf g) x)
     test =
-        subst (λ (q : Class). T (shared_test l q x)) c
-        (by_columns (shared_test l) halved l tt (all_at (shared_line halved) lines blank (shared_lines halved).0 (shared_lines halved).1 r) k)
+        subst (λ (q : Class). T (shared_test option l q x)) c
+        (by_columns (shared_test option l) option l tt (all_at (shared_line option) lines blank (shared_lines option).0 (shared_lines option).1 r) k)
 
     alone : Class → Bool
     alone Always = false
@@ -310,6 +357,6 @@ shared_factor_lem s r k g c = by_kind (λ x. 0 < x → x ≡ group_factor l g) s
     alone (OneOf g) = true
     alone Unknown = false
 
-    go : 0 < x → T (eqb x 0) ⊎ T (eqb x (group_factor l g)) → x ≡ group_factor l g
+    go : 0 < x → T (eqb x 0) ⊎ T (eqb x (group_factor option l g)) → x ≡ group_factor option l g
     go h (inl t) = absurd (omega (arith, eqb→eq x 0 t))
-    go h (inr t) = eqb→eq x (group_factor l g) t
+    go h (inr t) = eqb→eq x (group_factor option l g) t

@@ -5,7 +5,7 @@ use Rattle.standard.specs.declared.Settings.{Settings}
 use Rattle.standard.specs.declared.Capacities.{Capacities}
 use Rattle.standard.specs.declared.Class.TheVariants.{Always, Together, OneOf}
 use Rattle.standard.specs.Kinds.{class_of, fluid, permanent_earth}
-use Rattle.standard.specs.Rows.{factor_of, low_of, is_open_row}
+use Rattle.standard.specs.Rows.{unit_of, factor_of, has_low, low_of, is_open_row}
 
 -- a row, the set of the cases that act, and the set of the Hp cases at the low factor (SCOPE 4.1)
 pub record Combination : Type 0 where
@@ -28,6 +28,8 @@ pub record Admissible (s : Settings) (kind : ℕ → ℕ) (c : Combination) : Ty
   -- the low set holds acting Hp cases only (SCOPE 4.3)
   pub low_acts : (k : ℕ) → T (c.low k) → T (c.acting k)
   pub low_earth : (k : ℕ) → T (c.low k) → kind k ≡ permanent_earth
+  -- in a method without a low factor it is empty (SCOPE 4.3)
+  pub low_method : (k : ℕ) → T (c.low k) → T (has_low s)
 
 -- the same combination with the tank empty: no F case acts (SCOPE 4.2)
 abbrev pub emptied : (ℕ → ℕ) → Combination → Combination
@@ -49,9 +51,9 @@ factored_effect s kind c effect = sumℤ case_count (λ k. pos (taken s kind c k
 unfoldable pub numerator_of : Capacities → ℤ → ℤ → ℤ → ℕ
 numerator_of p n y z = nat_abs n * (p.y * p.z) + nat_abs y * (p.n * p.z) + nat_abs z * (p.n * p.y)
 
--- 1000 × Nc × Yc × Zc (SCOPE 4.5)
-unfoldable pub denominator_of : Capacities → ℕ
-denominator_of p = 1000 * (p.n * p.y * p.z)
+-- unit × Nc × Yc × Zc (SCOPE 4.5)
+unfoldable pub denominator_of : Settings → Capacities → ℕ
+denominator_of s p = unit_of s * (p.n * p.y * p.z)
 
 -- the numerator of a combination's utilisation; effect k j is the effect of case k on component j (SCOPE 4.5)
 abbrev pub utilisation_of : Settings → (ℕ → ℕ) → (ℕ → ℕ → ℤ) → Capacities → Combination → ℕ

@@ -28,6 +28,6 @@ pub record Utilisation (s : Settings) (kind : ℕ → ℕ) (effect : ℕ → ℕ
   pub none_above : (d : Combination) → Admissible s kind d → utilisation_of s kind effect p d ≤ numerator
   pub admissible : Admissible s kind c
   pub exact : utilisation_of s kind effect p c ≡ numerator
-  pub over : denominator_of p ≡ denominator
+  pub over : denominator_of s p ≡ denominator
   -- pass exactly when no admissible combination has a utilisation above one (SCOPE 10.3)
-  pub verdict : T pass ↔ ((d : Combination) → Admissible s kind d → utilisation_of s kind effect p d ≤ denominator_of p)
+  pub verdict : T pass ↔ ((d : Combination) → Admissible s kind d → utilisation_of s kind effect p d ≤ denominator_of s p)

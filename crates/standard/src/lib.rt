@@ -1,11 +1,12 @@
 ghost use Rattle.std.specs.Prelude.{◌≡◌};
 ghost use Rattle.standard.specs.Kinds.{class_of};
-ghost use Rattle.standard.specs.Rows.{settings_of, switched, strained, fresh_settings, low_of};
+ghost use Rattle.standard.specs.Range.{is_alternative};
+ghost use Rattle.standard.specs.Rows.{settings_of, switched, strained, fresh_settings, per_thousandth, unit_of, has_low, low_of};
 
 // Kinds are numbered from 1, so that 0 is an empty place; rows are numbered as in docs/FIELDS.md.
 pub const KINDS: usize = 15;
 
-pub const ROWS: usize = 44;
+pub const ROWS: usize = 60;
 
 pub const CASES: usize = 32;
 
@@ -92,9 +93,43 @@ pub fn class_of(kind: usize) -> Class
     }
 }
 
-// The low factor of Hp.
+// Whether the method is that of the alternative combinations of the IBC.
+pub fn is_alternative(method: u8) -> bool
+    ensures { result ≡ is_alternative method }
+{
+    method == 3
+}
+
+// What stands for a thousandth in a factor: 21 in method 3, whose factors are in 21,000ths.
+pub fn per_thousandth(s: Settings) -> u16
+    ensures { result ≡ per_thousandth s }
+{
+    if is_alternative(s.method) { 21 } else { 1 }
+}
+
+// The number that stands for a load factor of 1.
+pub fn unit_of(s: Settings) -> u64
+    ensures { result ≡ unit_of s }
+{
+    1000 * (per_thousandth(s) as u64)
+}
+
+// Whether Hp has a low factor.
+pub fn has_low(s: Settings) -> bool
+    ensures { result ≡ has_low s }
+{
+    !is_alternative(s.method)
+}
+
+// The low factor of Hp, and the full one where there is none.
 pub fn low_factor(s: Settings) -> u16
     ensures { result ≡ low_of s }
 {
-    if s.method == 1 { 900 } else { 600 }
+    if s.method == 1 {
+        return 900;
+    }
+    if is_alternative(s.method) {
+        return 21000;
+    }
+    600
 }

@@ -21,7 +21,7 @@ use Rattle.naming.specs.Sets.{chosen_of, named_of}
 use Rattle.naming.proofs.BestSets.{named_acting, named_low}
 
 module _ (s : Settings) (range : SettingsInRange s) (kind : ℕ → ℕ) (below : (k : ℕ) → kind k < kind_count) (places : List ℕ) (held : Places places kind)
-    (x : ℕ → ℤ) (row : ℕ) (joint : Bool) (acts : joint ≡ acts_together kind x fluid) (sets : Sets) (named : sets ≡ named_of (chosen_of row places joint) x) where
+    (x : ℕ → ℤ) (row : ℕ) (joint : Bool) (acts : joint ≡ acts_together kind x fluid) (sets : Sets) (named : sets ≡ named_of (chosen_of s row places joint) x) where
   acting_is : sets.acting ≡ mask_of case_count (acts_in s row kind x)
   acting_is = ap (λ (y : Sets). y.acting) named ∙ named_acting places kind held below s range row x joint acts
 

@@ -50,8 +50,8 @@ pub fn extremes_of(
     let least = governing::toward(s, &sums, 1, 0);
     let raised = sums::fluid_acts(&sums, 0, 1);
     let lowered = sums::fluid_acts(&sums, 1, 0);
-    let above = naming::sets_at(most.row, &places, effects, component, false, raised);
-    let below = naming::sets_at(least.row, &places, effects, component, true, lowered);
+    let above = naming::sets_at(s, most.row, &places, effects, component, false, raised);
+    let below = naming::sets_at(s, least.row, &places, effects, component, true, lowered);
     let value = integers::negated(least.value);
     Extremes {
         maximum: extreme(most.value, most.row, above),
@@ -76,13 +76,14 @@ fn peak_of(s: Settings, totals: &[i64], places: &[u64], effects: &[i16], p: Capa
     Found { peak, fluid }
 }
 
-fn denominator_of(p: Capacities) -> u64
-    ensures { result ≡ denominator_of p }
+fn denominator_of(s: Settings, p: Capacities) -> u64
+    ensures { result ≡ denominator_of s p }
 {
     let n = p.n as u64;
     let y = p.y as u64;
     let z = p.z as u64;
-    1000 * (n * y * z)
+    let unit = standard::unit_of(s);
+    unit * (n * y * z)
 }
 
 // The utilisation of a station.
@@ -101,10 +102,10 @@ pub fn utilisation_of(
     let q = found.peak;
     let best = q.best;
     let w = passes::pattern_weights(p, q.pattern);
-    let sets = naming::sets_by(best.row, &places, effects, w, found.fluid);
+    let sets = naming::sets_by(s, best.row, &places, effects, w, found.fluid);
     let x = extreme(best.value, best.row, sets);
     let numerator = integers::magnitude(x.value);
-    let denominator = denominator_of(p);
+    let denominator = denominator_of(s, p);
     Utilised {
         numerator,
         denominator,

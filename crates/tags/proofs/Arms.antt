@@ -12,7 +12,7 @@ use Rattle.sheet.specs.declared.Answered.{Answered}
 use Rattle.sheet.specs.declared.Answer.{Answer}
 use Rattle.sheet.specs.declared.Answer.TheVariants as answer
 use Rattle.sheet.specs.Sheet.{fresh, with_kind, with_effects, with_capacities, with_switch, with_straining}
-use Rattle.sheet.specs.Edits.{due_fill, due_effects, due_empty, due_factor, unless_refused}
+use Rattle.sheet.specs.Edits.{due_fill, due_effects, due_empty, due_ice, due_factor, unless_refused}
 use Rattle.sheet.specs.Looks.{extremes_at, utilisation_at, due_utilisation, looked_extremes, looked_utilisation, unless_due, edited}
 use Rattle.tags.specs.Run.{run_of}
 use Rattle.tags.proofs.Laws.{extremes_ran, utilisation_ran}
@@ -52,7 +52,7 @@ module _ (s : Sheet) (b : List ℕ) {b0 : ℕ} (e0 : b0 ≡ byte_at b 0) where
   unfolding run_of looked_utilisation
   utilisation_arm h = ap looked h ∙ rw e0 (sym (utilisation_ran s b))
 
-  pub switch_arm : {a : Answered} → a ≡ edited (unless_refused (due_switch b0) s (with_switch s b0)) → a ≡ run_of s 8 b
+  pub switch_arm : {a : Answered} → a ≡ edited (unless_refused (due_ice s b0) s (with_switch s b0)) → a ≡ run_of s 8 b
   unfolding run_of unless_refused due_switch
   switch_arm h = h ∙ rw e0
 

@@ -17,7 +17,7 @@ use Rattle.sheet.specs.declared.Sheet.{Sheet}
 use Rattle.sheet.specs.declared.Answered.{Answered}
 use Rattle.sheet.specs.Sheet.{fresh, with_kind, with_effects, with_capacities, with_switch, with_straining}
 use Rattle.refusals.specs.Refusals.{first_due, due_settings, due_fill_at, due_effects_at, due_empty_at, due_capacities, due_extremes, due_utilisation_at, due_switch, due_straining, due_name}
-use Rattle.sheet.specs.Edits.{due_fill, due_effects, due_empty, due_factor, unless_refused}
+use Rattle.sheet.specs.Edits.{due_fill, due_effects, due_empty, due_ice, due_factor, unless_refused}
 use Rattle.sheet.specs.Looks.{looked_extremes, looked_utilisation, edited}
 use Rattle.refusals.proofs.Fits.{inside}
 use native.Mathlib.Omega.{arith}
@@ -86,7 +86,7 @@ module _ (P : Answered → Type 0) (s : Sheet) (tag : ℕ) (b : List ℕ) where
       P (edited (unless_refused (due_empty s b0) s (with_kind s b0 0))) →
       P (edited (unless_refused (due_capacities b0 (word_at b 1) (word_at b 3) (word_at b 5)) s (with_capacities s b0 (word_at b 1) (word_at b 3) (word_at b 5)))) →
       P (looked_extremes s b0 b1) → P (looked_utilisation s b0) →
-      P (edited (unless_refused (due_switch b0) s (with_switch s b0))) →
+      P (edited (unless_refused (due_ice s b0) s (with_switch s b0))) →
       P (edited (unless_refused (due_factor s (word_at b 0)) s (with_straining s (word_at b 0)))) →
       P (edited (unless_refused (due_name b0) s s)) → P (run_of s tag b)
   unfolding run_of unless_refused due_settings due_fill_at due_effects_at due_empty_at due_capacities due_switch due_straining due_name

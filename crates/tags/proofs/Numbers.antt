@@ -1,4 +1,4 @@
--- The numbers of a tag's own refusals: none is 3 or 14, and none is above 15.
+-- The numbers of a tag's own refusals: none is 3 or 14, and none is above the last.
 -- Assumes nothing.
 use Prim.Native.Nat.{ℕ, ◌≤◌}
 use mathlib.Core.Bool.{Bool, true, false, cond, not, ◌&&◌}
@@ -6,7 +6,7 @@ use mathlib.Core.List.{List, [], ◌∷◌}
 use mathlib.Core.Path.{◌≡◌}
 use lib.Dec.{T, eqb, leb, leb→le}
 use Rattle.integers.proofs.Tests.{and_left, and_right, refuted}
-use Rattle.refusals.specs.Refusals.{Refusal, first_due}
+use Rattle.refusals.specs.Refusals.{Refusal, last_refusal, first_due}
 use Rattle.sheet.specs.declared.Sheet.{Sheet}
 use Rattle.tags.specs.Tags.{tag_at}
 use Rattle.tags.proofs.Laws.{by_tags}
@@ -26,21 +26,21 @@ first_passes p (r ∷ rs) z a =
     by false x y = y
 
 own : ℕ → Bool
-own n = not (eqb n 3) && (not (eqb n 14) && leb n 15)
+own n = not (eqb n 3) && (not (eqb n 14) && leb n last_refusal)
 
 pub record Own (n : ℕ) : Type 0 where
   pub not_3 : eqb n 3 ≡ false
   pub not_14 : eqb n 14 ≡ false
-  pub most : n ≤ 15
+  pub most : n ≤ last_refusal
 
 is_own : (n : ℕ) → T (own n) → Own n
 unfolding own
 is_own n t =
-    let a = and_right (not (eqb n 3)) (not (eqb n 14) && leb n 15) t in
+    let a = and_right (not (eqb n 3)) (not (eqb n 14) && leb n last_refusal) t in
     record {
-      not_3 = refuted (eqb n 3) (and_left (not (eqb n 3)) (not (eqb n 14) && leb n 15) t);
-      not_14 = refuted (eqb n 14) (and_left (not (eqb n 14)) (leb n 15) a);
-      most = leb→le n 15 (and_right (not (eqb n 14)) (leb n 15) a);
+      not_3 = refuted (eqb n 3) (and_left (not (eqb n 3)) (not (eqb n 14) && leb n last_refusal) t);
+      not_14 = refuted (eqb n 14) (and_left (not (eqb n 14)) (leb n last_refusal) a);
+      most = leb→le n last_refusal (and_right (not (eqb n 14)) (leb n last_refusal) a);
     }
 
 pub tag_due_own : (s : Sheet) (b : List ℕ) (tag : ℕ) → Own (first_due ((tag_at tag).refusals s b))

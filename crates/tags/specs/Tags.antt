@@ -71,7 +71,7 @@ utilisation_tag =
 
 -- 08: 1 for the ice rows on, 0 for off
 abbrev pub switch_tag : Tag
-switch_tag = edit (exactly 1) (λ s b. switch_refusals (byte_at b 0)) (λ s b. with_switch s (byte_at b 0))
+switch_tag = edit (exactly 1) (λ s b. switch_refusals s.settings.method (byte_at b 0)) (λ s b. with_switch s (byte_at b 0))
 
 -- 09: the factor of T
 abbrev pub straining_tag : Tag

@@ -2,7 +2,7 @@
 use Rattle.std.specs.Prelude.{ℕ, ◌+◌, ◌*◌, ◌≤◌, max, List, ◌≡◌, ℤ, pos, neg_ℤ, ◌+ℤ◌, ◌*ℤ◌, nat_abs}
 use Rattle.integers.specs.Sums.{up}
 use Rattle.standard.specs.declared.Settings.{Settings}
-use Rattle.standard.specs.Rows.{factor_of}
+use Rattle.standard.specs.Rows.{unit_most, factor_of}
 use Rattle.optimum.specs.Row.{lower_of}
 use Rattle.terms.specs.declared.Terms.{Terms}
 use Rattle.envelope.specs.Range.{effect_most}
@@ -44,9 +44,9 @@ pub record TermsInRange (t : Terms) : Type 0 where
   pub roof_up : t.roof ≡ pos (up t.roof)
   pub snow_up : t.snow ≡ pos (up t.snow)
 
--- no factor is above it, now or in the tables that may come
+-- no factor of any method is above it
 abbrev pub factor_most : ℕ
-factor_most = 21000
+factor_most = unit_most
 
 -- a total with a term at a factor
 pub record Gained (r total : ℤ) (f : ℕ) (x : ℤ) : Type 0 where

@@ -2,7 +2,7 @@
 -- Assumes nothing.
 use Prim.Native.Nat.{ℕ, ◌≤◌}
 use native.Mathlib.Omega.{arith}
-use mathlib.Core.Bool.{Bool, true, false, not, ◌&&◌, ◌||◌}
+use mathlib.Core.Bool.{Bool, true, false, ◌&&◌, ◌||◌}
 use mathlib.Core.List.{List, [], ◌∷◌}
 use mathlib.Core.Path.{◌≡◌, refl, ap, subst}
 use lib.Dec.{T, eqb, leb, eqb→eq, leb→le}
@@ -10,12 +10,12 @@ use lib.IntN.{ℤ, pos, negsuc, neg_ℤ}
 use lib.Signed.{◌≤ℤ◌}
 use lib.ListN.{length, get_or-eq_default}
 use Rattle.integers.specs.Sums.{sum, sumℤ, sum_where, most}
-use Rattle.integers.proofs.Tests.{and_left, and_right, neither}
+use Rattle.integers.proofs.Tests.{and_left, and_right, alike, alike_eq, neither}
 use Rattle.standard.specs.declared.Settings.{Settings}
 use Rattle.standard.specs.declared.Capacities.{Capacities}
 use Rattle.standard.specs.Kinds.{class_of}
-use Rattle.standard.specs.Range.{method_outside, live_outside, zone_outside, switch_outside, straining_outside, SettingsInRange}
-use Rattle.standard.specs.Rows.{factor_of, low_of, plain_rows, flood_rows, ice_rows, open_rows, is_open_row}
+use Rattle.standard.specs.Range.{method_outside, live_outside, zone_outside, ice_outside, straining_outside, SettingsInRange}
+use Rattle.standard.specs.Rows.{unit_of, factor_of, low_of, plain_rows, flood_rows, ice_rows, open_rows, is_open_row}
 use Rattle.standard.specs.Combination.{Combination, Admissible, factored_effect, case_count, denominator_of}
 use Rattle.standard.specs.Governing.{Reaches, Maximum, Minimum, Utilisation}
 use Rattle.optimum.specs.Row.{lower_of, least_of, greatest_of, group_of, joint_of, total_of, row_maximum, best_combination}
@@ -41,29 +41,19 @@ same_eq (pos a) (negsuc b) t = absurd t
 same_eq (negsuc a) (pos b) t = absurd t
 same_eq (negsuc a) (negsuc b) t = ap negsuc (eqb→eq a b t)
 
-alike : Bool → Bool → Bool
-alike true b = b
-alike false b = not b
-
-alike_eq : (a b : Bool) → T (alike a b) → a ≡ b
-unfolding alike
-alike_eq true true t = refl
-alike_eq true false t = absurd t
-alike_eq false true t = absurd t
-alike_eq false false t = refl
-
 -- some setting is outside its limits
 outside_range : Settings → Bool
 outside_range s =
-    method_outside s.method || (live_outside s.live || (zone_outside s.zone || (switch_outside s.ice || straining_outside s.method s.straining)))
+    method_outside s.method
+    || (live_outside s.live || (zone_outside s.method s.zone || (ice_outside s.method s.ice || straining_outside s.method s.straining)))
 
 within_range : (s : Settings) → outside_range s ≡ false → SettingsInRange s
 unfolding outside_range
 within_range s e =
     let a = neither (method_outside s.method) _ e in
     let b = neither (live_outside s.live) _ a.1 in
-    let c = neither (zone_outside s.zone) _ b.1 in
-    let d = neither (switch_outside s.ice) _ c.1 in
+    let c = neither (zone_outside s.method s.zone) _ b.1 in
+    let d = neither (ice_outside s.method s.ice) _ c.1 in
     record { method = a.0; live = b.0; zone = c.0; ice = d.0; straining = d.1 }
 
 -- a frame that the laws take: settings in range, and no more cases than a sheet has
@@ -177,7 +167,7 @@ each_holds (x ∷ xs) t =
     )
 
 table_checks : T (checks worked)
-unfolding checks fair outside_range reached meets same alike extreme_in governing_of best_of best_over best_among best_from row_maximum greatest_of least_of lower_of group_of joint_of total_of class_of factor_of low_of plain_rows flood_rows ice_rows open_rows is_open_row pattern_of peak_of utilised_of denominator_of sum sumℤ sum_where most
+unfolding checks fair outside_range reached meets same extreme_in governing_of best_of best_over best_among best_from row_maximum greatest_of least_of lower_of group_of joint_of total_of class_of factor_of low_of plain_rows flood_rows ice_rows open_rows is_open_row pattern_of peak_of utilised_of unit_of denominator_of sum sumℤ sum_where most
 table_checks = tt
 
 pub worked_by_hand : WorkedByHand

@@ -1,5 +1,5 @@
--- SCOPE 11.1, 11.3 and 11.4: frames P1 to P10, the pairs with every sign turned and the frames with T, at one station with N only, as one
--- table; between them further frames, each for a sentence of SCOPE 3 or 4 that none of these tries.
+-- SCOPE 11.1, 11.3, 11.4 and 11.8: frames P1 to P10, the pairs with every sign turned, the frames with T and those of method 3, at one
+-- station with N only, as one table; between them further frames, each for a sentence of SCOPE 3 or 4 that none of these tries.
 use Rattle.std.specs.Prelude.{ℕ, Bool, true, false, cond, List, [], ◌∷◌, ◌≡◌, eqb, ℤ, pos, neg_ℤ}
 use Rattle.standard.specs.declared.Settings.{Settings}
 use Rattle.standard.specs.Rows.{settings_of, switched, strained}
@@ -51,6 +51,9 @@ Hv = 4
 abbrev pub L : ℕ
 L = 5
 
+abbrev pub Lr : ℕ
+Lr = 6
+
 abbrev pub S : ℕ
 S = 7
 
@@ -77,6 +80,10 @@ T = 14
 
 abbrev pub frame : (method live zone : ℕ) → List ℕ → List ℤ → Frame
 frame method live zone kinds effects = record { settings = settings_of method live zone; kinds = kinds; effects = effects }
+
+-- in method 3, with option 0 or 1
+abbrev pub alternative : (option : ℕ) → List ℕ → List ℤ → Frame
+alternative option kinds effects = frame 3 option 0 kinds effects
 
 -- with the ice rows switched on
 abbrev pub icy : Frame → Frame
@@ -222,6 +229,45 @@ worked =
     ∷ (frame 1 0 0 p5.kinds (minus 100 ∷ pos 50 ∷ []) says minimum (minus 55000))
     ∷ (frame 1 0 0 (E ∷ F ∷ []) (pos 100 ∷ minus 30 ∷ []) says maximum (pos 100000))
     ∷ (frame 1 0 0 (E ∷ F ∷ []) (pos 100 ∷ minus 30 ∷ []) says minimum (minus 42000))
+    -- the alternative combinations of the IBC (SCOPE 11.8): each of rows 51 to 59 governs, with W by the option
+    ∷ (alternative 0 (D ∷ L ∷ Lr ∷ []) (pos 100 ∷ pos 50 ∷ pos 30 ∷ []) says maximum_in (pos 3780000) (51 ∷ []))
+    ∷ (alternative 0 (D ∷ L ∷ W ∷ []) (pos 100 ∷ pos 50 ∷ pos 100 ∷ []) says maximum_in (pos 4410000) (52 ∷ 54 ∷ []))
+    ∷ (alternative 1 (D ∷ L ∷ W ∷ []) (pos 100 ∷ pos 50 ∷ pos 100 ∷ []) says maximum_in (pos 4788000) (52 ∷ 54 ∷ []))
+    ∷ (alternative 0 (D ∷ W ∷ []) (minus 100 ∷ pos 100 ∷ []) says maximum_in (minus 140000) (53 ∷ 55 ∷ []))
+    ∷ (alternative 1 (D ∷ W ∷ []) (minus 100 ∷ pos 100 ∷ []) says maximum_in (pos 238000) (53 ∷ 55 ∷ []))
+    ∷ (alternative 0 (D ∷ L ∷ W ∷ S ∷ []) (pos 100 ∷ pos 50 ∷ pos 100 ∷ pos 40 ∷ []) says maximum_in (pos 4830000) (54 ∷ []))
+    ∷ (alternative 0 (D ∷ W ∷ S ∷ []) (minus 100 ∷ pos 100 ∷ pos 40 ∷ []) says maximum_in (pos 280000) (55 ∷ []))
+    ∷ (alternative 0 (D ∷ W ∷ S ∷ []) (pos 100 ∷ pos 20 ∷ pos 100 ∷ []) says maximum_in (pos 4326000) (56 ∷ []))
+    ∷ (alternative 1 (D ∷ W ∷ S ∷ []) (pos 100 ∷ pos 20 ∷ pos 100 ∷ []) says maximum_in (pos 4363800) (56 ∷ []))
+    ∷ (alternative 0 (D ∷ W ∷ S ∷ []) (minus 100 ∷ pos 20 ∷ pos 100 ∷ []) says maximum_in (pos 826000) (57 ∷ []))
+    ∷ (alternative 0 (D ∷ S ∷ E ∷ []) (pos 100 ∷ pos 20 ∷ pos 60 ∷ []) says maximum_in (pos 3420000) (58 ∷ []))
+    ∷ (alternative 0 (D ∷ E ∷ []) (minus 100 ∷ pos 100 ∷ []) says maximum_in (minus 390000) (59 ∷ []))
+    -- row 59 has no L; F has 21000 whatever D has, and the tank may be empty; the option reaches W alone; Lr and W share no row
+    ∷ (alternative 0 (D ∷ L ∷ E ∷ []) (minus 200 ∷ pos 10 ∷ pos 100 ∷ []) says maximum_in (minus 2280000) (59 ∷ []))
+    ∷ (alternative 0 (D ∷ F ∷ E ∷ []) (minus 100 ∷ pos 50 ∷ pos 100 ∷ []) says maximum_in (pos 660000) (59 ∷ []))
+    ∷ (alternative 0 (D ∷ F ∷ W ∷ []) (minus 100 ∷ pos 50 ∷ pos 100 ∷ []) says maximum_in (pos 910000) (53 ∷ 55 ∷ []))
+    ∷ (alternative 0 (D ∷ F ∷ W ∷ S ∷ []) (minus 100 ∷ pos 50 ∷ pos 20 ∷ pos 100 ∷ []) says maximum_in (pos 1876000) (57 ∷ []))
+    ∷ (alternative 0 (F ∷ W ∷ []) (minus 50 ∷ pos 100 ∷ []) says maximum_in (pos 1260000) (52 ∷ 53 ∷ 54 ∷ 55 ∷ []))
+    ∷ (alternative 1 (D ∷ L ∷ []) (pos 100 ∷ pos 50 ∷ []) says maximum_in (pos 3150000) (51 ∷ 52 ∷ 54 ∷ 56 ∷ 58 ∷ []))
+    ∷ (alternative 0 (Lr ∷ W ∷ []) (pos 100 ∷ pos 100 ∷ []) says maximum_in (pos 2100000) (51 ∷ []))
+    ∷ (alternative 0 (R ∷ E ∷ []) (pos 100 ∷ pos 100 ∷ []) says maximum_in (pos 2100000) (51 ∷ []))
+    -- no Hp is low; Hv may be left out
+    ∷ (alternative 0 (W ∷ Hp ∷ []) (pos 100 ∷ minus 50 ∷ []) says maximum_in (pos 210000) (52 ∷ 53 ∷ 54 ∷ 55 ∷ []))
+    ∷ (alternative 0 (W ∷ Hp ∷ []) (pos 100 ∷ minus 50 ∷ []) says minimum (minus 1050000))
+    ∷ (alternative 0 (Hv ∷ E ∷ []) (pos 50 ∷ pos 100 ∷ []) says maximum_in (pos 2550000) (58 ∷ 59 ∷ []))
+    ∷ (alternative 0 (W ∷ Hv ∷ []) (pos 100 ∷ minus 50 ∷ []) says maximum_in (pos 1260000) (52 ∷ 53 ∷ 54 ∷ 55 ∷ []))
+    -- T in each row, at 21 times the factor of the sheet; no flood load, no ice
+    ∷ (alternative 0 (T ∷ []) (pos 100 ∷ []) says maximum_in (pos 2100000) (51 ∷ 52 ∷ 53 ∷ 54 ∷ 55 ∷ 56 ∷ 57 ∷ 58 ∷ 59 ∷ []))
+    ∷ (with_factor 750 (alternative 0 (T ∷ []) (pos 100 ∷ [])) says maximum_in (pos 1575000) (51 ∷ 52 ∷ 53 ∷ 54 ∷ 55 ∷ 56 ∷ 57 ∷ 58 ∷ 59 ∷ []))
+    ∷ (alternative 0 (D ∷ Fa ∷ Di ∷ Wi ∷ []) (pos 10 ∷ pos 100 ∷ pos 100 ∷ pos 100 ∷ []) says maximum (pos 210000))
+    -- utilisations over the unit of the method
+    ∷ (alternative 0 (D ∷ []) (pos 100 ∷ []) says utilisation (record { n = 100; y = 10; z = 10 }) 210000000 210000000 true)
+    ∷ (alternative 0 (D ∷ []) (pos 100 ∷ []) says utilisation (record { n = 99; y = 10; z = 10 }) 210000000 207900000 false)
+    -- P2 in method 3, and with the sign of every effect turned
+    ∷ (alternative 0 (D ∷ L ∷ W ∷ W ∷ []) (pos 100 ∷ pos 50 ∷ minus 200 ∷ pos 80 ∷ []) says maximum (pos 4158000))
+    ∷ (alternative 0 (D ∷ L ∷ W ∷ W ∷ []) (pos 100 ∷ pos 50 ∷ minus 200 ∷ pos 80 ∷ []) says minimum (minus 1120000))
+    ∷ (alternative 0 (D ∷ L ∷ W ∷ W ∷ []) (minus 100 ∷ minus 50 ∷ pos 200 ∷ minus 80 ∷ []) says maximum (pos 1120000))
+    ∷ (alternative 0 (D ∷ L ∷ W ∷ W ∷ []) (minus 100 ∷ minus 50 ∷ pos 200 ∷ minus 80 ∷ []) says minimum (minus 4158000))
     ∷ []
 
 abbrev pub All : List Entry → Type 0

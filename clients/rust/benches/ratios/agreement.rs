@@ -11,6 +11,9 @@ use crate::lists::Random;
 /// named is compared too.
 const REACHES: [u16; 4] = [1, 3, 100, 10_000];
 
+/// How many settings are compared, in each method as many.
+const SETTINGS: u8 = 36;
+
 /// What the bytes hold before a call, to see which of them it writes.
 const BEFORE: u8 = 0xA5;
 
@@ -32,14 +35,14 @@ struct Compared {
 /// Where the bytes differ.
 pub fn report() {
     let mut compared = Compared::default();
-    for settings in 0..24 {
+    for settings in 0..SETTINGS {
         for places in 0..=32 {
             for reach in REACHES {
                 compared.sheet(settings, places, reach);
             }
         }
     }
-    assert_eq!(compared.refusals, (1..=15).collect(), "not every refusal");
+    assert_eq!(compared.refusals, (1..=16).collect(), "not every refusal");
     println!(
         "- Compared before the timing: {} fields, {} of them 06 and 07 answered, on {} sheets of every method, live option and zone, \
          without ice and with it, with several straining factors and every refusal. The bytes are the same, and so are {} names that \
@@ -175,10 +178,17 @@ impl List {
 
     /// Fields that make a sheet: places spread over the 32, of any kinds, and capacities at three stations in four.
     fn sheet(&mut self, settings: u8, places: u8) {
-        self.push(1, &[1 + settings % 2, settings / 2 % 2, settings / 4 % 3]);
-        self.push(8, &[settings / 12]);
-        let factor: u16 = match (settings % 2, self.below(3)) {
-            (0, at) => [1000, 1700, 2000][usize::from(at)],
+        let (method, live) = (1 + settings % 3, settings / 3 % 2);
+        let (zone, ice) = (settings / 6 % 3, settings / 18);
+        // Method 3 has neither zones nor ice.
+        if method == 3 {
+            self.push(1, &[method, live, 0]);
+        } else {
+            self.push(1, &[method, live, zone]);
+            self.push(8, &[ice]);
+        }
+        let factor: u16 = match (method, self.below(3)) {
+            (1, at) => [1000, 1700, 2000][usize::from(at)],
             (_, at) => [750, 890, 1000][usize::from(at)],
         };
         self.push(9, &factor.to_be_bytes());

@@ -4,7 +4,7 @@
 pub struct Counted {
     /// One tag, or two in turn, or `NAME`.
     pub field: &'static str,
-    /// 1 is strength, 2 allowable stress.
+    /// 1 is strength, 2 allowable stress, 3 the alternative combinations of the IBC.
     pub method: u8,
     pub places: u8,
     /// The library's instructions a field. The benchmark fails where it takes over a tenth more.
@@ -15,7 +15,7 @@ pub struct Counted {
 pub const NAME: &str = "name";
 
 /// The bounds are the counts of the library as it is; they are set here alone.
-pub const LISTS: [Counted; 14] = [
+pub const LISTS: [Counted; 18] = [
     counted("03", 1, 8, 324),
     counted("03", 1, 32, 323),
     counted("02/04", 1, 8, 330),
@@ -24,10 +24,14 @@ pub const LISTS: [Counted; 14] = [
     counted("06", 1, 32, 2406),
     counted("06", 2, 8, 1726),
     counted("06", 2, 32, 2455),
+    counted("06", 3, 8, 1650),
+    counted("06", 3, 32, 2200),
     counted("07", 1, 8, 3088),
     counted("07", 1, 32, 4179),
     counted("07", 2, 8, 3222),
     counted("07", 2, 32, 4359),
+    counted("07", 3, 8, 2900),
+    counted("07", 3, 32, 3900),
     counted("60", 1, 8, 223),
     counted(NAME, 1, 8, 20),
 ];

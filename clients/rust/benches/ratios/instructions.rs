@@ -29,7 +29,9 @@ pub fn report() -> bool {
     println!(
         "Counted by valgrind: what a list of {MANY} fields takes over one of {FEW}, by field."
     );
-    println!("The kinds stand in turn, D first, so that 8 places have no W, E and Fa; zone 1.");
+    println!(
+        "The kinds stand in turn, D first, so that 8 places have no W, E and Fa; zone 1, in method 3 zone 0."
+    );
     println!("The benchmark fails where the library takes over a tenth more than its bound.\n");
     head(&[
         "field, method, places filled",

@@ -260,6 +260,7 @@ pub fn with_refusals(count: usize, seed: u64) -> Vec<u8> {
         bytes.extend_from_slice(&[tag, 0, len as u8]);
         for at in 0..len {
             let byte = match (tag, at) {
+                (1, 0) => random.below(5),
                 (1, _) => random.below(4),
                 (2..=4 | 0x60, 0) => random.below(34),
                 (3, 1) | (5..=7, 0) => random.below(17),
@@ -277,16 +278,15 @@ pub fn with_refusals(count: usize, seed: u64) -> Vec<u8> {
     bytes
 }
 
-/// A sheet of zone 1 whose filled places hold the kinds in turn, D first, with effects and capacities at every station.
+/// A sheet whose filled places hold the kinds in turn, D first, with effects and capacities at every station; in zone 1 where its
+/// method has zones.
 pub fn kinds_in_turn(method: u8, places: u8) -> Sheet {
     let mut random = Random::new(5);
-    let mut sheet = Sheet::new(Settings {
-        method: match method {
-            1 => Method::Strength,
-            _ => Method::Allowable,
-        },
-        live: LiveOption::Full,
-        zone: Zone::Coastal,
+    let (live, zone) = (LiveOption::Full, Zone::Coastal);
+    let mut sheet = Sheet::new(match method {
+        1 => Settings::Strength { live, zone },
+        2 => Settings::Allowable { live, zone },
+        _ => Settings::new(Method::Alternative),
     });
     let mut fields = Vec::new();
     for case in 0..places {

@@ -33,7 +33,7 @@ enum Opened {
 
 use Opened::{Always, InZone, WithIce};
 
-/// A line of the standard: its load factors in thousandths, 0 being no factor.
+/// A line of the standard: its load factors in the unit of its method, 0 being no factor.
 #[derive(Clone, Copy)]
 pub struct Row {
     pub number: u8,
@@ -53,10 +53,10 @@ const fn row(number: u8, opened: Opened, columns: [i64; 12]) -> Row {
     }
 }
 
-// SCOPE 3.2 to 3.4
+// SCOPE 3.2 to 3.4 and 3.10
 #[rustfmt::skip]
-const ROWS: [Row; 38] = [
-    //                     D     F     H     L    Lr     S     R     W     E    Fa    Di    Wi
+const ROWS: [Row; 47] = [
+    // in thousandths      D     F     H     L    Lr     S     R     W     E    Fa    Di    Wi
     row( 1, Always,    [1400, 1400,    0,    0,    0,    0,    0,    0,    0,    0,    0,    0]),
     row( 2, Always,    [1200, 1200, 1600, 1600,  500,  500,  500,    0,    0,    0,    0,    0]),
     row( 3, Always,    [1200, 1200, 1600, 1000, 1600, 1600, 1600,    0,    0,    0,    0,    0]),
@@ -95,10 +95,30 @@ const ROWS: [Row; 38] = [
     row(41, WithIce,   [1000, 1000, 1000, 1000,    0,    0,    0,    0,    0,    0,  700,    0]),
     row(42, WithIce,   [1000, 1000, 1000,    0,    0, 1000,    0,    0,    0,    0,  700,  700]),
     row(43, WithIce,   [ 600,    0, 1000,    0,    0,    0,    0,    0,    0,    0,  700,  700]),
+    // in 21,000ths     D      F      H      L     Lr      S      R      W      E  Fa Di Wi
+    row(51, Always, [21000, 21000, 21000, 21000, 21000, 21000, 21000,     0,     0, 0, 0, 0]),
+    row(52, Always, [21000, 21000, 21000, 21000,     0,     0,     0, 12600,     0, 0, 0, 0]),
+    row(53, Always, [14000, 21000, 21000, 21000,     0,     0,     0, 12600,     0, 0, 0, 0]),
+    row(54, Always, [21000, 21000, 21000, 21000,     0, 10500,     0, 12600,     0, 0, 0, 0]),
+    row(55, Always, [14000, 21000, 21000, 21000,     0, 10500,     0, 12600,     0, 0, 0, 0]),
+    row(56, Always, [21000, 21000, 21000, 21000,     0, 21000,     0,  6300,     0, 0, 0, 0]),
+    row(57, Always, [14000, 21000, 21000, 21000,     0, 21000,     0,  6300,     0, 0, 0, 0]),
+    row(58, Always, [21000, 21000, 21000, 21000,     0, 21000,     0,     0, 15000, 0, 0, 0]),
+    row(59, Always, [18900, 21000, 21000,     0,     0,     0,     0,     0, 15000, 0, 0, 0]),
 ];
 
 /// The rows whose factor on L is 500 with live option 1.
 const LIVE_OPTION_ROWS: [u8; 6] = [3, 5, 6, 9, 11, 14];
+
+/// The rows of method 3 and their factors on W with live option 1: allowable stresses were increased.
+const INCREASED: [(u8, i64); 6] = [
+    (52, 16380),
+    (53, 16380),
+    (54, 16380),
+    (55, 16380),
+    (56, 8190),
+    (57, 8190),
+];
 
 /// The rows without T.
 const ROWS_WITHOUT_T: [u8; 2] = [1, 21];
@@ -118,7 +138,11 @@ impl Row {
     }
 
     fn is_open(&self, sheet: &Sheet) -> bool {
-        let method = if self.number <= 20 { 1 } else { 2 };
+        let method = match self.number {
+            1..=15 => 1,
+            21..=43 => 2,
+            _ => 3,
+        };
         let opened = match self.opened {
             Always => true,
             InZone(zone) => sheet.zone == zone,
@@ -127,23 +151,37 @@ impl Row {
         sheet.method == method && opened
     }
 
-    /// The row with the factor on L that the sheet's live option gives it, and the sheet's factor on T.
+    /// The row with the factor on L or W that the sheet's live option gives it, and the sheet's factor on T.
     fn on(mut self, sheet: &Sheet) -> Row {
         if !ROWS_WITHOUT_T.contains(&self.number) {
-            self.straining = sheet.straining.into();
+            self.straining = unit(sheet) * i64::from(sheet.straining) / 1000;
         }
         if sheet.live_option == 1 && LIVE_OPTION_ROWS.contains(&self.number) {
             self.columns[column(L)] = 500;
+        }
+        let increased = INCREASED.iter().find(|(number, _)| *number == self.number);
+        if let (1, Some((_, factor))) = (sheet.live_option, increased) {
+            self.columns[column(W)] = *factor;
         }
         self
     }
 }
 
-/// The factor of an Hp case in the low set.
-pub fn low_factor(sheet: &Sheet) -> i64 {
+// SCOPE 1.3
+/// What stands for a load factor of 1.
+pub fn unit(sheet: &Sheet) -> i64 {
     match sheet.method {
-        1 => 900,
-        _ => 600,
+        3 => 21_000,
+        _ => 1000,
+    }
+}
+
+/// The factor of an Hp case in the low set; method 3 has none.
+pub fn low_factor(sheet: &Sheet) -> Option<i64> {
+    match sheet.method {
+        1 => Some(900),
+        2 => Some(600),
+        _ => None,
     }
 }
 
@@ -191,6 +229,9 @@ pub fn admissible(sheet: &Sheet, row: &Row, acting: u32, low: u32) -> Result<(),
         if at_low && !(acts && case.kind == HP) {
             return Err("the low set holds a case that is not an acting Hp");
         }
+        if at_low && low_factor(sheet).is_none() {
+            return Err("the low set holds a case, and the method has no low factor");
+        }
         for (count, group) in acting_of_group.iter_mut().zip(ONE_OF) {
             if acts && group.contains(&case.kind) {
                 *count += 1;
@@ -203,7 +244,7 @@ pub fn admissible(sheet: &Sheet, row: &Row, acting: u32, low: u32) -> Result<(),
     Ok(())
 }
 
-/// The factored effects N, My, Mz of a combination, in thousandths.
+/// The factored effects N, My, Mz of an admissible combination, in the unit of the method.
 pub fn factored_effects(
     sheet: &Sheet,
     row: &Row,
@@ -218,7 +259,7 @@ pub fn factored_effects(
             continue;
         }
         let factor = if contains(low, place) {
-            low_factor(sheet)
+            low_factor(sheet).expect("the low set is empty without a low factor")
         } else {
             row.factor(case.kind)
         };
@@ -237,7 +278,7 @@ pub fn numerator(factored: [i128; 3], capacities: [u16; 3]) -> i128 {
 }
 
 /// The denominator of the utilisation, without reduction.
-pub fn denominator(capacities: [u16; 3]) -> i128 {
+pub fn denominator(sheet: &Sheet, capacities: [u16; 3]) -> i128 {
     let [nc, yc, zc] = capacities.map(i128::from);
-    1000 * nc * yc * zc
+    i128::from(unit(sheet)) * nc * yc * zc
 }

@@ -70,7 +70,8 @@ pub fn check(sheet: &Sheet, field: &[u8], answer: &Answer) -> Result<(), String>
                 found = found.max(Some(numerator(factored, capacities)));
             });
             same("numerator", found, *stated)?;
-            same("denominator", Some(denominator(capacities)), *below)?;
+            let due = denominator(sheet, capacities);
+            same("denominator", Some(due), *below)?;
             same("verdict", found.map(|top| top <= *below), *pass)
         }
         Answer::Accepted | Answer::Refused(_) => Ok(()),

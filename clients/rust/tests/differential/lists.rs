@@ -158,6 +158,12 @@ fn style(random: &mut Random, sort: Sort) -> Style {
             if random.chance(10) {
                 style.stations = every_station;
             }
+            // The greatest numbers that there are.
+            if random.chance(20) {
+                style.kinds = few_kinds(random);
+                style.effects = Effects::Among(vec![-10_000, 10_000, 10_000]);
+                style.greatest_capacity = 10_000;
+            }
         }
         Sort::Ties => {
             let one = random.between(1, limit);
@@ -398,7 +404,7 @@ impl Builder<'_> {
         let kind = self.near(14, &[0, 1, 12, 13, 14, 15, 255]);
         match self.random.below(19) {
             0 => {
-                let method = self.near(2, &[0, 1, 2, 3, 255]);
+                let method = self.near(3, &[0, 1, 2, 3, 4, 255]);
                 let live_option = self.near(1, &[0, 1, 2, 255]);
                 let zone = self.near(2, &[0, 1, 2, 3, 255]);
                 self.fresh(method, live_option, zone);
@@ -466,7 +472,7 @@ impl Builder<'_> {
         self.random.pick(&EDGE)
     }
 
-    /// A straining factor of either method: one of the other method is refused.
+    /// A straining factor of some method: one outside the limits of the sheet's is refused.
     fn straining(&mut self) -> i64 {
         match self.random.below(6) {
             0 => 1000,
@@ -476,10 +482,14 @@ impl Builder<'_> {
         }
     }
 
+    /// Settings that are accepted: method 3 has no zones.
     fn settings(&mut self) -> [u8; 3] {
-        let method = self.random.between(1, 2) as u8;
+        let method = self.random.between(1, 3) as u8;
         let live_option = self.random.below(2) as u8;
-        let zone = self.random.below(3) as u8;
+        let zone = match method {
+            3 => 0,
+            _ => self.random.below(3) as u8,
+        };
         [method, live_option, zone]
     }
 
@@ -515,7 +525,11 @@ impl Builder<'_> {
     }
 
     fn fresh(&mut self, method: u8, live_option: u8, zone: u8) {
-        if (1..=2).contains(&method) && live_option <= 1 && zone <= 2 {
+        let is_zone = match method {
+            3 => zone == 0,
+            _ => zone <= 2,
+        };
+        if (1..=3).contains(&method) && live_option <= 1 && is_zone {
             self.kinds = [0; PLACES];
         }
         self.push(1, &[method, live_option, zone]);

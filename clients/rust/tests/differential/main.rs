@@ -71,6 +71,10 @@ fn main() -> ExitCode {
         println!("refusal {number} never occurred");
         run.summary.differences += 1;
     }
+    if run.summary.lacks_methods() {
+        println!("no looks of some sort in some method");
+        run.summary.differences += 1;
+    }
     if run.summary.lacks_varied_looks() {
         println!("no looks with other values at some stations");
         run.summary.differences += 1;
@@ -108,11 +112,14 @@ impl Run {
             worked::ice(),
             worked::fluid(),
             worked::straining(),
+            worked::alternative(),
+            worked::greatest(),
             worked::held(),
             worked::turned(),
             worked::offices(),
             worked::names(),
             worked::refusals(),
+            worked::refusals_of_method_3(),
             worked::lengths(),
         ];
         for (index, example) in (0..).zip(examples.into_iter().flatten()) {
@@ -172,7 +179,7 @@ impl Run {
             result = compare::own_combinations(sheet, field, answer);
             let answered = summary.extremes + summary.utilisations;
             if result.is_ok() && is_enumerated(sheet.filled(), answered) {
-                summary.enumerated += 1;
+                summary.count_enumerated(sheet);
                 result = enumerate::check(sheet, field, answer);
             }
         });

@@ -27,7 +27,7 @@ pub struct Sheet {
     pub live_option: u8,
     pub zone: u8,
     pub ice: bool,
-    /// The factor on T, in thousandths.
+    /// The factor on T, in thousandths in every method.
     pub straining: u16,
     pub places: [Option<Case>; PLACES],
     pub capacities: [Option<[u16; 3]>; STATIONS],
@@ -164,6 +164,9 @@ fn refusal(sheet: &Sheet, tag: u8, body: &[u8]) -> Option<u8> {
     if !lengths.contains(&body.len()) {
         return Some(2);
     }
+    if (tag, sheet.method) == (0x08, 3) {
+        return Some(16);
+    }
     value_refusal(sheet, tag, body).or_else(|| sheet_refusal(sheet, tag, body))
 }
 
@@ -175,7 +178,14 @@ fn value_refusal(sheet: &Sheet, tag: u8, body: &[u8]) -> Option<u8> {
     let effect = |at: usize| due(!(-10_000..=10_000).contains(&signed(body, at)), 9);
     let capacity = |at: usize| due(!(1..=10_000).contains(&unsigned(body, at)), 10);
     match tag {
-        0x01 => due(!(1..=2).contains(&body[0]) || body[1] > 1 || body[2] > 2, 4),
+        0x01 => {
+            let last_zone = match body[0] {
+                1 | 2 => 2,
+                3 => 0,
+                _ => return Some(4),
+            };
+            due(body[1] > 1 || body[2] > last_zone, 4)
+        }
         0x02 => case().or(due(!(1..=14).contains(&body[1]), 7)),
         0x03 => case()
             .or(station(1))
@@ -261,7 +271,7 @@ fn utilisation(sheet: &Sheet, station: usize) -> Answer {
         })
         .max_by_key(|extreme| extreme.value)
         .expect("there are eight sign patterns");
-    let denominator = combination::denominator(capacities);
+    let denominator = combination::denominator(sheet, capacities);
     Answer::Utilisation {
         numerator: governing.value,
         denominator,
@@ -286,7 +296,7 @@ fn greatest(sheet: &Sheet, station: usize, weights: [i128; 3]) -> Extreme {
 }
 
 /// Within a row each kind is decided apart from the others; the F cases act all together or not at all.
-fn greatest_in_row(row: &Row, low: i64, values: &[Option<(u8, i128)>; PLACES]) -> Extreme {
+fn greatest_in_row(row: &Row, low: Option<i64>, values: &[Option<(u8, i128)>; PLACES]) -> Extreme {
     let mut extreme = Extreme {
         value: 0,
         combination: Combination {
@@ -303,15 +313,16 @@ fn greatest_in_row(row: &Row, low: i64, values: &[Option<(u8, i128)>; PLACES]) -
             continue;
         }
         let full = i128::from(factor) * value;
-        let reduced = i128::from(low) * value;
         match kind {
             D => extreme.act(place, full),
             F => fluid = (fluid.0 | 1 << place, fluid.1 + full),
-            HP if reduced > full => {
-                extreme.act(place, reduced);
-                extreme.combination.low |= 1 << place;
-            }
-            HP => extreme.act(place, full),
+            HP => match low.map(|low| i128::from(low) * value) {
+                Some(reduced) if reduced > full => {
+                    extreme.act(place, reduced);
+                    extreme.combination.low |= 1 << place;
+                }
+                _ => extreme.act(place, full),
+            },
             L | HV | T if full > 0 => extreme.act(place, full),
             L | HV | T => {}
             _ => consider(&mut best_of_group, kind, place, full),

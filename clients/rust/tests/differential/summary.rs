@@ -20,13 +20,13 @@ pub struct Summary {
     pub names_refused: u64,
     pub extremes: u64,
     pub utilisations: u64,
+    by_method: [Method; 3],
     pub with_ice: u64,
     pub with_fluids: u64,
     pub with_straining: u64,
     pub after_drops: u64,
     pub after_sets: u64,
-    pub enumerated: u64,
-    pub refusals: [u64; 16],
+    pub refusals: [u64; 17],
     pub chains: u64,
     pub refused_states: u64,
     pub pairs_of_lists: u64,
@@ -39,6 +39,16 @@ pub struct Summary {
     pub left_out: u64,
     pub left_out_of_program: u64,
     pub differences: u64,
+}
+
+/// Looks with an answer on sheets of one method.
+#[derive(Clone, Copy, Default)]
+struct Method {
+    looks: u64,
+    /// Those with live option 1.
+    with_option: u64,
+    /// Those that were also enumerated.
+    enumerated: u64,
 }
 
 /// The sheet before a field, and what the last edit was.
@@ -93,6 +103,9 @@ impl Summary {
         }
         before.sheet.clone_from(sheet);
         if matches!(answer, Answer::Extremes { .. } | Answer::Utilisation { .. }) {
+            let method = self.method(sheet);
+            method.looks += 1;
+            method.with_option += u64::from(sheet.live_option);
             self.with_ice += u64::from(sheet.ice);
             let count = |kind: u8| {
                 let cases = sheet.places.iter().flatten();
@@ -113,9 +126,26 @@ impl Summary {
         }
     }
 
+    /// Counts a look that is compared with every admissible combination.
+    pub fn count_enumerated(&mut self, sheet: &Sheet) {
+        self.method(sheet).enumerated += 1;
+    }
+
+    fn method(&mut self, sheet: &Sheet) -> &mut Method {
+        &mut self.by_method[usize::from(sheet.method) - 1]
+    }
+
+    /// Whether some method had no look, none with live option 1, or none that was enumerated.
+    pub fn lacks_methods(&self) -> bool {
+        let counts = |method: &Method| [method.looks, method.with_option, method.enumerated];
+        self.by_method
+            .iter()
+            .any(|method| counts(method).contains(&0))
+    }
+
     /// The refusal numbers that never occurred: a run that lacks one has tested too little.
     pub fn missing_refusals(&self) -> Vec<usize> {
-        (1..=15)
+        (1..self.refusals.len())
             .filter(|number| self.refusals[*number] == 0)
             .collect()
     }
@@ -160,14 +190,18 @@ impl Summary {
         line("names refused with 2 or 5", self.names_refused);
         line("extremes answered (06)", self.extremes);
         line("utilisations answered (07)", self.utilisations);
+        for (number, method) in (1..).zip(self.by_method) {
+            line(&format!("  of both, method {number}"), method.looks);
+            line("    with live option 1", method.with_option);
+            line("    also enumerated", method.enumerated);
+        }
         line("  of both, with ice", self.with_ice);
         line("  of both, with several F cases", self.with_fluids);
         line("  of both, T not at 1000", self.with_straining);
         line("  of both, D or F just dropped", self.after_drops);
         line("  of both, D or F just set again", self.after_sets);
-        line("  of both, also enumerated", self.enumerated);
-        for number in 1..=15 {
-            line(&format!("refusal {number}"), self.refusals[number]);
+        for (number, count) in self.refusals.iter().enumerate().skip(1) {
+            line(&format!("refusal {number}"), *count);
         }
         line("chains of saved states", self.chains);
         line("states refused", self.refused_states);

@@ -1,12 +1,14 @@
-//! Fixed lists: the frames worked by hand, sheets with ice, with F, with T, with D and F cases dropped and set again, with every effect
-//! turned, with other values at another station, and with names, the small inputs of the table of refusals, and fields at the limits of a
-//! length.
+//! Fixed lists: the frames worked by hand, sheets with ice, with F, with T, in method 3, with D and F cases dropped and set again, with
+//! every effect turned, with other values at another station, and with names, the small inputs of the table of refusals, and fields at
+//! the limits of a length.
 
-use std::ops::{Range, RangeInclusive};
+use std::collections::BTreeMap;
+use std::ops::Range;
 
-use crate::combination::{D, DI, E, F, FA, HP, HV, L, LR, R, S, T, W, WI};
+use crate::combination::{factored_effects, D, DI, E, F, FA, HP, HV, L, LR, R, S, T, W, WI};
+use crate::enumerate::for_each_combination;
 use crate::lists::field;
-use crate::reference::{self, read_list, Answer, Sheet, LONGEST_BODY};
+use crate::reference::{self, read_list, Answer, Sheet, LONGEST_BODY, PLACES};
 
 pub struct Example {
     pub name: &'static str,
@@ -18,29 +20,53 @@ pub struct Example {
 enum Expected {
     Maximum(i128),
     MaximumInRow(i128, u8),
-    MaximumInRows(i128, RangeInclusive<u8>),
+    /// The maximum, and all rows with a combination that reaches it.
+    MaximumInRows(i128, Vec<u8>),
+    /// The greatest factored effect of a row, which need not govern.
+    GreatestOfRow(i128, u8),
     MinimumInRow(i128, u8),
     Extremes(i128, i128),
     Utilisation(i128, i128, bool),
     Bytes(Vec<u8>),
 }
 
-use Expected::{Bytes, Extremes, Maximum, MaximumInRow, MaximumInRows, MinimumInRow, Utilisation};
+use Expected::{
+    Bytes, Extremes, GreatestOfRow, Maximum, MaximumInRow, MaximumInRows, MinimumInRow, Utilisation,
+};
+
+/// The maximum, and all rows with a combination that reaches it.
+fn in_rows(value: i128, rows: impl IntoIterator<Item = u8>) -> Expected {
+    MaximumInRows(value, rows.into_iter().collect())
+}
+
+/// The greatest factored effect on N at station 0 by row, from every admissible combination.
+fn greatest_by_row(sheet: &Sheet) -> BTreeMap<u8, i128> {
+    let mut greatest = BTreeMap::new();
+    for_each_combination(sheet, |row, acting, low| {
+        let [n, ..] = factored_effects(sheet, row, acting, low, 0);
+        let most = greatest.entry(row.number).or_insert(n);
+        *most = n.max(*most);
+    });
+    greatest
+}
 
 impl Example {
     /// Compares the reference with the number or the bytes of the document.
     pub fn check(&self) -> Result<(), String> {
-        let mut last = Answer::Accepted;
-        read_list(&mut Sheet::fresh(), &self.list, |_, _, answer| {
-            last = *answer
-        });
+        let (mut sheet, mut last) = (Sheet::fresh(), Answer::Accepted);
+        read_list(&mut sheet, &self.list, |_, _, answer| last = *answer);
         let holds = match (&self.expected, last) {
             (Maximum(value), Answer::Extremes { maximum, .. }) => maximum.value == *value,
             (MaximumInRow(value, row), Answer::Extremes { maximum, .. }) => {
                 maximum.value == *value && maximum.combination.row == *row
             }
             (MaximumInRows(value, rows), Answer::Extremes { maximum, .. }) => {
-                maximum.value == *value && rows.contains(&maximum.combination.row)
+                let mut greatest = greatest_by_row(&sheet);
+                greatest.retain(|_, most| most == value);
+                maximum.value == *value && greatest.keys().eq(rows)
+            }
+            (GreatestOfRow(value, row), Answer::Extremes { .. }) => {
+                greatest_by_row(&sheet).get(row) == Some(value)
             }
             (MinimumInRow(value, row), Answer::Extremes { minimum, .. }) => {
                 minimum.value == *value && minimum.combination.row == *row
@@ -226,13 +252,13 @@ pub fn straining() -> Vec<Example> {
         utilisation("a verdict by the factor on T", list, [150, 10, 10], Utilisation(top, 15_000_000, pass))
     };
     vec![
-        extremes("T alone", cases(PLAIN, &alone), MaximumInRows(100_000, 2..=8)),
-        extremes("T alone at 2000", set(PLAIN, &alone, 2000), MaximumInRows(200_000, 2..=8)),
-        extremes("T alone, method 2", cases(ALLOWABLE, &alone), MaximumInRows(100_000, 22..=30)),
-        extremes("T alone at 750", set(ALLOWABLE, &alone, 750), MaximumInRows(75_000, 22..=30)),
+        extremes("T alone", cases(PLAIN, &alone), in_rows(100_000, 2..=8)),
+        extremes("T alone at 2000", set(PLAIN, &alone, 2000), in_rows(200_000, 2..=8)),
+        extremes("T alone, method 2", cases(ALLOWABLE, &alone), in_rows(100_000, 22..=30)),
+        extremes("T alone at 750", set(ALLOWABLE, &alone, 750), in_rows(75_000, 22..=30)),
         extremes("no T in row 1", cases(PLAIN, &dead), MaximumInRow(140_000, 1)),
-        extremes("rows 2 to 6 with T", set(PLAIN, &[(D, 100), (T, 30)], 1500), MaximumInRows(165_000, 2..=6)),
-        extremes("rows 22 to 28 with T", cases(ALLOWABLE, &dead), MaximumInRows(110_000, 22..=28)),
+        extremes("rows 2 to 6 with T", set(PLAIN, &[(D, 100), (T, 30)], 1500), in_rows(165_000, 2..=6)),
+        extremes("rows 22 to 28 with T", cases(ALLOWABLE, &dead), in_rows(110_000, 22..=28)),
         extremes("T opposes", cases(PLAIN, &opposing), Extremes(200_000, 60_000)),
         extremes("T opposes at 2000", set(PLAIN, &opposing, 2000), Extremes(200_000, 30_000)),
         extremes("a subset of T", set(PLAIN, &several, 1500), Extremes(120_000, -30_000)),
@@ -258,6 +284,93 @@ pub fn straining() -> Vec<Example> {
         extremes("T turned", set(PLAIN, &[(D, -100), (T, 30), (T, -50)], 2000), Extremes(-30_000, -220_000)),
         extremes("T not turned", set(PLAIN, &[(D, 100), (T, -30), (T, 50)], 2000), Extremes(220_000, 30_000)),
     ]
+}
+
+/// A sheet of method 3.
+const ALTERNATIVE: [u8; 3] = [3, 0, 0];
+/// The same, where allowable stresses were increased.
+const INCREASED: [u8; 3] = [3, 1, 0];
+
+// SCOPE 11.8
+#[rustfmt::skip]
+pub fn alternative() -> Vec<Example> {
+    let wind = [(D, 100), (L, 50), (W, 100)];
+    let uplift = [(D, -100), (W, 100)];
+    let snow = [(D, 100), (L, 50), (W, 100), (S, 40)];
+    let uplift_snow = [(D, -100), (W, 100), (S, 40)];
+    let much_snow = [(D, 100), (W, 20), (S, 100)];
+    let strained_at = |factor| strained(cases(ALTERNATIVE, &[(T, 100)]), factor);
+    let verdict = |name, capacity, below, pass| {
+        let list = cases(ALTERNATIVE, &[(D, 100)]);
+        utilisation(name, list, [capacity, 10, 10], Utilisation(210_000_000, below, pass))
+    };
+    let plain = |name, list: &[(u8, i16)], expected| extremes(name, cases(ALTERNATIVE, list), expected);
+    let increased = |name, list: &[(u8, i16)], expected| extremes(name, cases(INCREASED, list), expected);
+    let turned = P2.map(|(kind, effect)| (kind, -effect));
+    let again = [cases(INCREASED, &wind), cases(PLAIN, &P2)].concat();
+    let refused = [cases(ALTERNATIVE, &wind), field(1, &[3, 0, 1]), field(8, &[1])].concat();
+    vec![
+        plain("row 51", &[(D, 100), (L, 50), (LR, 30)], in_rows(3_780_000, [51])),
+        plain("rows 52 and 54", &wind, in_rows(4_410_000, [52, 54])),
+        increased("rows 52 and 54, option 1", &wind, in_rows(4_788_000, [52, 54])),
+        plain("rows 53 and 55", &uplift, in_rows(-140_000, [53, 55])),
+        increased("rows 53 and 55, option 1", &uplift, in_rows(238_000, [53, 55])),
+        plain("row 54", &snow, in_rows(4_830_000, [54])),
+        plain("no S in row 52", &snow, GreatestOfRow(4_410_000, 52)),
+        plain("row 55", &uplift_snow, in_rows(280_000, [55])),
+        plain("no S in row 53", &uplift_snow, GreatestOfRow(-140_000, 53)),
+        plain("row 56", &much_snow, in_rows(4_326_000, [56])),
+        increased("row 56, option 1", &much_snow, in_rows(4_363_800, [56])),
+        plain("row 57", &[(D, -100), (W, 20), (S, 100)], in_rows(826_000, [57])),
+        plain("row 58", &[(D, 100), (S, 20), (E, 60)], in_rows(3_420_000, [58])),
+        plain("row 59", &[(D, -100), (E, 100)], in_rows(-390_000, [59])),
+        plain("no L in row 59", &[(D, -200), (L, 10), (E, 100)], in_rows(-2_280_000, [59])),
+        plain("F in row 59", &[(D, -100), (F, 50), (E, 100)], in_rows(660_000, [59])),
+        plain("F in rows 53 and 55", &[(D, -100), (F, 50), (W, 100)], in_rows(910_000, [53, 55])),
+        plain("an empty tank, method 3", &[(F, -50), (W, 100)], in_rows(1_260_000, 52..=55)),
+        increased("option 1 and L", &[(D, 100), (L, 50)], in_rows(3_150_000, [51, 52, 54, 56, 58])),
+        plain("no Lr beside W", &[(LR, 100), (W, 100)], in_rows(2_100_000, [51])),
+        plain("no low factor", &[(W, 100), (HP, -50)], Extremes(210_000, -1_050_000)),
+        plain("no low factor, rows 52 to 55", &[(W, 100), (HP, -50)], in_rows(210_000, 52..=55)),
+        plain("no low factor, turned", &[(W, -100), (HP, 50)], in_rows(1_050_000, 51..=59)),
+        plain("Hv in rows 58 and 59", &[(HV, 50), (E, 100)], in_rows(2_550_000, [58, 59])),
+        plain("without Hv", &[(W, 100), (HV, -50)], in_rows(1_260_000, 52..=55)),
+        plain("T alone, method 3", &[(T, 100)], in_rows(2_100_000, 51..=59)),
+        extremes("T alone at 750, method 3", strained_at(750), in_rows(1_575_000, 51..=59)),
+        extremes("749 in method 3", strained_at(749), in_rows(2_100_000, 51..=59)),
+        extremes("1001 in method 3", strained_at(1001), in_rows(2_100_000, 51..=59)),
+        plain("no Fa, Di and Wi", &[(D, 10), (FA, 100), (DI, 100), (WI, 100)], Maximum(210_000)),
+        verdict("a utilisation of 1, method 3", 100, 210_000_000, true),
+        verdict("Nc 99, method 3", 99, 207_900_000, false),
+        plain("P2 in method 3", &P2, Extremes(4_158_000, -1_120_000)),
+        plain("P2 in method 3, turned", &turned, Extremes(1_120_000, -4_158_000)),
+        extremes("method 1 again", again, Extremes(250_000, -110_000)),
+        extremes("a zone and ice refused", refused, in_rows(4_410_000, [52, 54])),
+    ]
+}
+
+/// Every place with effects of 10,000 or of -10,000, on a sheet of method 3 whose capacities are 10,000: the greatest numbers there are.
+pub fn greatest() -> Vec<Example> {
+    let list = |kind, effect: i16| {
+        let [high, low] = effect.to_be_bytes();
+        let place = |place| {
+            let effects = field(3, &[place, 0, high, low, high, low, high, low]);
+            [field(2, &[place, kind]), effects].concat()
+        };
+        let places: Vec<u8> = (0..PLACES as u8).flat_map(place).collect();
+        let [high, low] = 10_000_u16.to_be_bytes();
+        let capacities = field(5, &[0, high, low, high, low, high, low]);
+        [field(1, &ALTERNATIVE), places, capacities].concat()
+    };
+    let example = |(kind, effect)| Example {
+        name: "the greatest utilisation",
+        list: [list(kind, effect), field(6, &[0, 0]), field(7, &[0])].concat(),
+        expected: Utilisation(2_016_000_000_000_000_000, 21_000_000_000_000_000, false),
+    };
+    let kinds = [D, F, HP, HV, L, T].into_iter();
+    kinds
+        .flat_map(|kind| [10_000, -10_000].map(|effect| example((kind, effect))))
+        .collect()
 }
 
 /// N at station 0.
@@ -523,12 +636,13 @@ fn p2_answer() -> Vec<u8> {
 
 // SCOPE 7.1
 pub fn refusals() -> Vec<Example> {
-    let examples: [(u8, &[u8]); 21] = [
+    let examples: [(u8, &[u8]); 23] = [
         (3, &[1, 0, 3, 1]),
         (1, &[0x7F, 0, 0]),
         (2, &[4, 0, 2, 0, 0]),
         (2, &[0x60, 0, 1, 0]),
-        (4, &[1, 0, 3, 3, 0, 0]),
+        (4, &[1, 0, 3, 4, 0, 0]),
+        (4, &[1, 0, 3, 3, 0, 1]),
         (4, &[8, 0, 1, 2]),
         (5, &[4, 0, 1, 0x20]),
         (5, &[0x60, 0, 2, 0x20, 0x41]),
@@ -541,6 +655,7 @@ pub fn refusals() -> Vec<Example> {
         (12, &[4, 0, 1, 0]),
         (13, &[7, 0, 1, 0]),
         (15, &[9, 0, 2, 0, 0]),
+        (16, &[1, 0, 3, 3, 0, 0, 8, 0, 1, 0]),
         (2, &[9, 0, 1, 0]),
         (2, &[9, 0, 3, 0, 0, 0]),
         (1, &[0x0A, 0, 2, 0, 0]),
@@ -550,6 +665,39 @@ pub fn refusals() -> Vec<Example> {
         name: "the small input of a refusal",
         list: list.to_vec(),
         expected: Bytes(vec![0x81, 0, 1, number]),
+    };
+    examples.into_iter().map(example).collect()
+}
+
+// SCOPE 11.8
+/// Fields on a sheet of method 3, with the number of the refusal or 0.
+pub fn refusals_of_method_3() -> Vec<Example> {
+    let examples: [(u8, &[u8]); 17] = [
+        (16, &[8, 0, 1, 0]),
+        (16, &[8, 0, 1, 1]),
+        (16, &[8, 0, 1, 2]),
+        (2, &[8, 0, 2, 0, 0]),
+        (2, &[8, 0, 0]),
+        (15, &[9, 0, 2, 0x02, 0xED]),
+        (15, &[9, 0, 2, 0x03, 0xE9]),
+        (0, &[9, 0, 2, 0x02, 0xEE]),
+        (0, &[9, 0, 2, 0x03, 0xE8]),
+        (4, &[1, 0, 3, 3, 0, 1]),
+        (4, &[1, 0, 3, 3, 1, 2]),
+        (4, &[1, 0, 3, 3, 2, 0]),
+        (4, &[1, 0, 3, 4, 0, 0]),
+        (0, &[1, 0, 3, 3, 1, 0]),
+        (0, &[1, 0, 3, 1, 0, 1]),
+        (0, &[1, 0, 3, 1, 0, 1, 8, 0, 1, 1]),
+        (3, &[8, 0, 1]),
+    ];
+    let example = |(number, list): (u8, &[u8])| Example {
+        name: "a refusal in method 3",
+        list: [&field(1, &ALTERNATIVE), list].concat(),
+        expected: Bytes(match number {
+            0 => vec![0x80, 0, 0],
+            number => vec![0x81, 0, 1, number],
+        }),
     };
     examples.into_iter().map(example).collect()
 }

@@ -14,7 +14,7 @@ abbrev x : tie.Start → ℕ → ℤ
 x s = λ k. turned s.args.minus (effect_of s.args.effects.now k s.args.component)
 
 small : (c : tie.After-chosen-in) → ChosenInRange c.chosen-in.result
-small c = let s = c.before.before in chosen_small (chosen_of s.args.row s.args.places.now s.args.fluid) s.requires.2 c.chosen-in.result c.chosen-in.ensures
+small c = let s = c.before.before in chosen_small (chosen_of s.args.s s.args.row s.args.places.now s.args.fluid) s.requires.2 c.chosen-in.result c.chosen-in.ensures
 
 marked-at-requires : tie.Need-marked-at-requires
 marked-at-requires c κs = ((small c).earth, c.before.before.requires.3, c.before.before.requires.4)
@@ -51,7 +51,7 @@ named-requires c κs =
     let m1 = m2.before in
     let p = m1.before in
     let s = p.before.before in
-    marked_small (chosen_of s.args.row s.args.places.now s.args.fluid) s.requires.2 p.chosen-in.result p.chosen-in.ensures (x s) _ _ _ _ _ _ _ _
+    marked_small (chosen_of s.args.s s.args.row s.args.places.now s.args.fluid) s.requires.2 p.chosen-in.result p.chosen-in.ensures (x s) _ _ _ _ _ _ _ _
     m1.marked-at.ensures m2.marked-at2.ensures m3.marked-at3.ensures m4.marked-at4.ensures m5.marked-at5.ensures m6.marked-at6.ensures m7.marked-at7.ensures c.marked-at8.ensures
 
 returns : tie.Need-returns
@@ -66,7 +66,7 @@ returns c =
     let m1 = m2.before in
     let p = m1.before in
     let s = p.before.before in
-    named_is (chosen_of s.args.row s.args.places.now s.args.fluid) s.requires.2 p.chosen-in.result p.chosen-in.ensures (x s) _ _ _ _ _ _ _ _
+    named_is (chosen_of s.args.s s.args.row s.args.places.now s.args.fluid) s.requires.2 p.chosen-in.result p.chosen-in.ensures (x s) _ _ _ _ _ _ _ _
     m1.marked-at.ensures m2.marked-at2.ensures m3.marked-at3.ensures m4.marked-at4.ensures m5.marked-at5.ensures m6.marked-at6.ensures m7.marked-at7.ensures m8.marked-at8.ensures
     c.named.result c.named.ensures
 

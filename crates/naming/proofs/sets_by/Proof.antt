@@ -14,7 +14,7 @@ abbrev x : tie.Start → ℕ → ℤ
 x s = weighed s.args.w (effect_of s.args.effects.now)
 
 small : (c : tie.After-chosen-in) → ChosenInRange c.chosen-in.result
-small c = let s = c.before.before in chosen_small (chosen_of s.args.row s.args.places.now s.args.fluid) s.requires.2 c.chosen-in.result c.chosen-in.ensures
+small c = let s = c.before.before in chosen_small (chosen_of s.args.s s.args.row s.args.places.now s.args.fluid) s.requires.2 c.chosen-in.result c.chosen-in.ensures
 
 marked-by-requires : tie.Need-marked-by-requires
 marked-by-requires c κs = ((small c).earth, c.before.before.requires.3, c.before.before.requires.4)
@@ -51,7 +51,7 @@ named-requires c κs =
     let m1 = m2.before in
     let p = m1.before in
     let s = p.before.before in
-    marked_small (chosen_of s.args.row s.args.places.now s.args.fluid) s.requires.2 p.chosen-in.result p.chosen-in.ensures (x s) _ _ _ _ _ _ _ _
+    marked_small (chosen_of s.args.s s.args.row s.args.places.now s.args.fluid) s.requires.2 p.chosen-in.result p.chosen-in.ensures (x s) _ _ _ _ _ _ _ _
     m1.marked_by.ensures m2.marked-by2.ensures m3.marked-by3.ensures m4.marked-by4.ensures m5.marked-by5.ensures m6.marked-by6.ensures m7.marked-by7.ensures c.marked-by8.ensures
 
 returns : tie.Need-returns
@@ -66,7 +66,7 @@ returns c =
     let m1 = m2.before in
     let p = m1.before in
     let s = p.before.before in
-    named_is (chosen_of s.args.row s.args.places.now s.args.fluid) s.requires.2 p.chosen-in.result p.chosen-in.ensures (x s) _ _ _ _ _ _ _ _
+    named_is (chosen_of s.args.s s.args.row s.args.places.now s.args.fluid) s.requires.2 p.chosen-in.result p.chosen-in.ensures (x s) _ _ _ _ _ _ _ _
     m1.marked_by.ensures m2.marked-by2.ensures m3.marked-by3.ensures m4.marked-by4.ensures m5.marked-by5.ensures m6.marked-by6.ensures m7.marked-by7.ensures m8.marked-by8.ensures
     c.named.result c.named.ensures
 

@@ -1,6 +1,8 @@
 -- No bit is at most one; of others 1 can be taken away.
 -- Assumes nothing.
-use Rattle.std.proofs.Common.{◌≡◌, ℕ, rules}
+use mathlib.Core.Path.{◌≡◌}
+use Prim.Native.Nat.{ℕ}
+use borrow.Author.Rules.{rules}
 use Rattle.recheck_combinations.proofs.at_most_one.Statement.{statement}
 use Rattle.recheck_combinations.proofs.at_most_one.Tie as tie
 

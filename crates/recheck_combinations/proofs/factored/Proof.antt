@@ -1,11 +1,13 @@
--- `recheck_combinations::factored` is safe and ends: the places passed are at most 32; the measure is what is left.
+-- The places passed are at most 32, and each moves the sum by at most 2^29; the measure is what is left.
 -- Assumes nothing.
-use Rattle.std.proofs.Common.{◌-◌, ◌≤◌, rules}
+use Prim.Native.Nat.{◌≤◌, ◌-◌, ◌*◌}
+use borrow.Author.Rules.{rules}
+use Rattle.recheck_combinations.specs.Figures.{Signed}
 use Rattle.recheck_combinations.proofs.factored.Statement.{statement}
 use Rattle.recheck_combinations.proofs.factored.Tie as tie
 
 abbrev invariant-loop : tie.invariant-loop
-invariant-loop factors effects component low_factor_lem acting low sum₀ acts₀ lows₀ case₀ sum acts lows case = case ≤ 32
+invariant-loop factors effects component low_factor_lem acting low sum₀ acts₀ lows₀ case₀ sum acts lows case = (case ≤ 32) × Signed sum (536870912 * case)
 
 abbrev decreases-loop : tie.decreases-loop
 decreases-loop factors effects component low_factor_lem acting low sum₀ acts₀ lows₀ case₀ sum acts lows case = 32 - case
@@ -23,7 +25,6 @@ factored-spec =
     (λ c. search rules)
     (λ c. search rules)
     (λ c. search rules)
-    (λ c κs. search rules)
     (λ c κs. search rules)
     (λ c. search rules)
     (λ c. search rules)

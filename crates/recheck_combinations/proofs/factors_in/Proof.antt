@@ -1,7 +1,11 @@
 -- No factor is above the bound, at the places passed and at those still 0; the measure is what is left.
 -- Assumes nothing.
-use Rattle.std.proofs.Common.{ℕ, zero, suc, ◌-◌, ◌≤◌, max, List, [], ◌∷◌, get_or, set, arith, rules}
-use Rattle.recheck_combinations.specs.Acting.{Factors}
+use Prim.Native.Nat.{ℕ, zero, suc, ◌*◌, ◌≤◌, ◌-◌, max}
+use mathlib.Core.List.{List, [], ◌∷◌}
+use lib.ListN.{get_or, set}
+use native.Mathlib.Omega.{arith}
+use borrow.Author.Rules.{rules}
+use Rattle.recheck_combinations.specs.Figures.{Factors}
 use Rattle.recheck_combinations.proofs.factors_in.Statement.{statement}
 use Rattle.recheck_combinations.proofs.factors_in.Tie as tie
 
@@ -14,7 +18,7 @@ none t zero k = omega arith
 none t (suc n) zero = omega arith
 none t (suc n) (suc k) = none t n k
 
-stored : (t : ℕ) (xs : List ℕ) (i v : ℕ) → Factors t xs → v ≤ max 2000 t → Factors t (set xs i v)
+stored : (t : ℕ) (xs : List ℕ) (i v : ℕ) → Factors t xs → v ≤ max 21000 (21 * t) → Factors t (set xs i v)
 stored t [] i v f h k = f k
 stored t (x ∷ xs) zero v f h zero = h
 stored t (x ∷ xs) zero v f h (suc k) = f (suc k)
@@ -34,7 +38,7 @@ loop-again : tie.Need-loop-preserved invariant-loop decreases-loop
 loop-again c =
     let turn = c.before.before.before in
     let l = turn.loop in
-    (search rules, stored turn.before.args.straining l.factors l.case c.factor.result l.invariant.1 c.factor.ensures)
+    (search rules, stored turn.before.args.straining l.factors l.case c.factor.result l.invariant.1 c.factor.ensures.1)
 
 returns : tie.Need-returns invariant-loop decreases-loop
 returns c = c.before.loop.invariant.1

@@ -1,8 +1,17 @@
 -- The set of the places passed is the definition's, and the bit is the next place's; the measure is what is left.
 -- Assumes nothing.
-use Rattle.std.proofs.Common.{◌≡◌, ℕ, ◌+◌, ◌-◌, ◌*◌, ◌%◌, ◌^◌, ◌<◌, ◌≤◌, cond, not, ◌&&◌, eqb, leb, List, get_or, refl, ap, ◌∙◌, pow-suc, add-one, arith, rules}
+use mathlib.Core.Path.{◌≡◌, refl, ap, ◌∙◌}
+use mathlib.Core.List.{List}
+use mathlib.Core.Bool.{cond, not, ◌&&◌}
+use Prim.Native.Nat.{ℕ, ◌+◌, ◌-◌, ◌*◌, ◌%◌, ◌^◌, ◌<◌, ◌≤◌}
+use native.Mathlib.Numerals.{add-one}
+use native.Mathlib.Nat.{pow-suc}
+use native.Mathlib.Omega.{arith}
 use lib.Bits.{bit_or}
+use lib.Dec.{eqb, leb}
+use lib.ListN.{get_or}
 use lib.Pow.{pow-lt}
+use borrow.Author.Rules.{rules}
 use Rattle.recheck_combinations.specs.Acting.{having}
 use Rattle.recheck_combinations.proofs.having.Statement.{statement}
 use Rattle.recheck_combinations.proofs.having.Tie as tie

@@ -1,6 +1,6 @@
 -- By whether it is asked for.
 -- Assumes nothing.
-use Rattle.std.proofs.Common.{rules}
+use borrow.Author.Rules.{rules}
 use Rattle.recheck_combinations.proofs.joined.Statement.{statement}
 use Rattle.recheck_combinations.proofs.joined.Tie as tie
 

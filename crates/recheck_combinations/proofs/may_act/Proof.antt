@@ -1,7 +1,7 @@
 -- The tests are the definition's.
 -- Assumes nothing.
 use Rattle.recheck_combinations.specs.Acting.{may_act}
-use Rattle.std.proofs.Common.{rules}
+use borrow.Author.Rules.{rules}
 use Rattle.recheck_combinations.proofs.may_act.Statement.{statement}
 use Rattle.recheck_combinations.proofs.may_act.Tie as tie
 

@@ -1,7 +1,10 @@
 -- `recheck_combinations::times` is safe: each remainder is below 2^32, so the product is below 2^64.
 -- Assumes nothing.
 use mathlib.Core.Path.{subst⁻¹}
-use Rattle.std.proofs.Common.{ℕ, ◌+◌, ◌*◌, ◌^◌, ◌<◌, lt_of_le_of_lt, le_of_lt, mul-le-mul_left, mul-lt-mul_of_pos_right, pow_pos, pow-add, rules}
+use Prim.Native.Nat.{ℕ, ◌+◌, ◌*◌, ◌^◌, ◌<◌}
+use native.Mathlib.Nat.{le_of_lt, lt_of_le_of_lt, mul-le-mul_left, mul-lt-mul_of_pos_right}
+use lib.Pow.{pow_pos, pow-add}
+use borrow.Author.Rules.{rules}
 use Rattle.recheck_combinations.proofs.times.Statement.{statement}
 use Rattle.recheck_combinations.proofs.times.Tie as tie
 

@@ -1,11 +1,13 @@
--- Capacities are of 16 bits each, so that a thousand times the product of the three fits.
+-- Capacities are of 16 bits each, so that the product of the three fits with the unit of any method.
 -- Assumes nothing.
 use borrow.Author.Rules.{rules}
-use Prim.Native.Nat.{◌*◌, ◌≤◌, ◌<◌, ◌^◌}
+use Prim.Native.Nat.{ℕ, ◌*◌, ◌≤◌, ◌<◌, ◌^◌}
 use native.Mathlib.Nat.{mul-le-mul}
 use native.Mathlib.Omega.{arith}
-use mathlib.Core.Path.{refl}
+use mathlib.Core.Path.{ap}
+use Rattle.standard.specs.Rows.{unit_most}
 use Rattle.standard.specs.Combination.{denominator_of}
+use Rattle.standard.proofs.Facts.{unit_le}
 use Rattle.passes.proofs.Products.{Held, product_fits}
 use Rattle.station.proofs.denominator_of.Statement.{statement}
 use Rattle.station.proofs.denominator_of.Tie as tie
@@ -23,19 +25,24 @@ three-fit c =
     let k : p.z ≤ 65535 = omega (arith, (held c).z) in
     mul-le-mul h k
 
+abbrev start : tie.After-unit-of → tie.Start
+start c = c.before.before.before.before
+
 mul-result : tie.Need-overflow-mul-result
-mul-result c = omega (arith, two-fit c.before.before.before)
+mul-result c = omega (arith, two-fit (start c))
 
 mul-result-2 : tie.Need-overflow-mul-result-2
-mul-result-2 c = omega (arith, three-fit c.before.before.before)
+mul-result-2 c = omega (arith, three-fit (start c))
 
 mul-result-3 : tie.Need-overflow-mul-result-3
-mul-result-3 c = omega (arith, three-fit c.before.before.before)
+mul-result-3 c =
+    let u : c.unit-of.result ≤ unit_most = omega (arith, c.unit-of.ensures, unit_le (start c).args.s) in
+    omega (arith, three-fit (start c), mul-le-mul u (three-fit (start c)))
 
 returns : tie.Need-returns
 unfolding denominator_of
-returns c = refl
+returns c = let p = (start c).args.p in ap (λ (u : ℕ). u * (p.n * p.y * p.z)) c.unit-of.ensures
 
 pub denominator-of-spec : {M : Type 1} → statement M
 denominator-of-spec =
-    tie.close (tie.spec (λ c. search rules) (λ c. search rules) (λ c. search rules) mul-result mul-result-2 mul-result-3 returns)
+    tie.close (tie.spec (λ c. search rules) (λ c. search rules) (λ c. search rules) (λ c κs. search rules) mul-result mul-result-2 mul-result-3 returns)

@@ -111,7 +111,7 @@ sets-at-requires c κs =
     let s = p.before.before in (
       subst (λ (b : Best). b.row < row_count) (sym (most-is t)) (row_below s.args.s (kind s) (effect s)),
       places_in_range p.places_of.result (kind s) p.places_of.ensures,
-      chosen_in_range p.places_of.result (kind s) p.places_of.ensures t.toward.result.row a.fluid_acts_lem.result,
+      chosen_in_range p.places_of.result (kind s) p.places_of.ensures s.args.s t.toward.result.row a.fluid_acts_lem.result,
       in_range s,
       s.requires.2,
     )
@@ -124,7 +124,7 @@ sets-at-requires-2 c κs =
     let s = p.before.before in (
       subst (λ (b : Best). b.row < row_count) (sym (least-is t)) (row_below s.args.s (kind s) (λ k. neg_ℤ (effect s k))),
       places_in_range p.places_of.result (kind s) p.places_of.ensures,
-      chosen_in_range p.places_of.result (kind s) p.places_of.ensures t.toward2.result.row a.fluid-acts2.result,
+      chosen_in_range p.places_of.result (kind s) p.places_of.ensures s.args.s t.toward2.result.row a.fluid-acts2.result,
       in_range s,
       s.requires.2,
     )

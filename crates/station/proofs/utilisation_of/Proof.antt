@@ -120,7 +120,7 @@ sets-by-requires c κs =
     let s = p.before.before in (
       subst (λ (b : Best). b.row < row_count) (sym (best-is w)) (row_below s.args.s (kind s) (weighed w.pattern-weights.result (effect s))),
       places_in_range p.places_of.result (kind s) p.places_of.ensures,
-      chosen_in_range p.places_of.result (kind s) p.places_of.ensures q.peak-of.result.peak.best.row q.peak-of.result.fluid,
+      chosen_in_range p.places_of.result (kind s) p.places_of.ensures s.args.s q.peak-of.result.peak.best.row q.peak-of.result.fluid,
       in_range s,
       weights w,
     )

@@ -136,11 +136,12 @@ impl Direction {
             | one(f.flood, self.flood.up)
             | one(f.ice, self.ice.up)
             | one(f.wind_on_ice, self.wind_on_ice.up)
-            | if f.strained {
-                self.straining.cases_above
-            } else {
-                0
-            };
-        (acting, with(f.earth, self.permanent.cases_below))
+            | with(f.straining, self.straining.cases_above);
+        let low = if f.has_low() {
+            self.permanent.cases_below
+        } else {
+            0
+        };
+        (acting, low)
     }
 }

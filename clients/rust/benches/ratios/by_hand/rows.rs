@@ -2,14 +2,14 @@
 
 use super::sheet::Settings;
 
-/// The factors of a row, in thousandths. A 0 is no factor: the kind does not act.
+/// The factors of a row, in the unit of its method. A 0 is no factor: the kind does not act.
 #[derive(Clone, Copy)]
 pub struct Factors {
     pub dead: i64,
     pub fluid: i64,
     /// The full factor of Hp and Hv.
     pub earth: i64,
-    /// The low factor of Hp.
+    /// The low factor of Hp; the full one in a row of method 3.
     pub earth_low: i64,
     pub live: i64,
     /// The factor of L with live option 1.
@@ -19,17 +19,19 @@ pub struct Factors {
     /// The factor of S in a row that has none for Lr and R.
     pub snow: i64,
     pub wind: i64,
+    /// The factor of W with live option 1.
+    pub wind_increased: i64,
     pub earthquake: i64,
     pub flood: i64,
     pub ice: i64,
     pub wind_on_ice: i64,
-    /// Whether T acts, at the factor of the sheet.
-    pub strained: bool,
+    /// How many times the factor of the sheet T has.
+    pub straining: i64,
 }
 
-/// By row number. The numbers between the two methods are no rows, and all 0.
-pub const ROWS: [Factors; 44] = {
-    let mut rows = [factors(0, [0; 10]); 44];
+/// By row number. The numbers between the methods are no rows, and all 0.
+pub const ROWS: [Factors; 60] = {
+    let mut rows = [factors(0, [0; 10]); 60];
     // D, F, H, L, L with live option 1, roof, S alone, W, E, Fa
     rows[1] = factors(900, [1400, 1400, 0, 0, 0, 0, 0, 0, 0, 0]);
     rows[2] = factors(900, [1200, 1200, 1600, 1600, 1600, 500, 0, 0, 0, 0]);
@@ -65,8 +67,18 @@ pub const ROWS: [Factors; 44] = {
     rows[41] = ice(rows[22], 0, 700, 0);
     rows[42] = ice(rows[23], 1000, 700, 700);
     rows[43] = ice(rows[29], 0, 700, 700);
-    rows[1].strained = false;
-    rows[21].strained = false;
+    // D, L, roof, S alone, W, E
+    rows[51] = alternative([21_000, 21_000, 21_000, 0, 0, 0]);
+    rows[52] = alternative([21_000, 21_000, 0, 0, 12_600, 0]);
+    rows[53] = alternative([14_000, 21_000, 0, 0, 12_600, 0]);
+    rows[54] = alternative([21_000, 21_000, 0, 10_500, 12_600, 0]);
+    rows[55] = alternative([14_000, 21_000, 0, 10_500, 12_600, 0]);
+    rows[56] = alternative([21_000, 21_000, 0, 21_000, 6_300, 0]);
+    rows[57] = alternative([14_000, 21_000, 0, 21_000, 6_300, 0]);
+    rows[58] = alternative([21_000, 21_000, 0, 21_000, 0, 15_000]);
+    rows[59] = alternative([18_900, 0, 0, 0, 0, 15_000]);
+    rows[1].straining = 0;
+    rows[21].straining = 0;
     rows
 };
 
@@ -83,17 +95,31 @@ const fn factors(low: i64, columns: [i64; 10]) -> Factors {
         roof,
         snow,
         wind,
+        wind_increased: wind,
         earthquake,
         flood,
         ice: 0,
         wind_on_ice: 0,
-        strained: true,
+        straining: 1,
     }
+}
+
+/// A row of method 3: F and H at the full load, no low factor, and W at 1.3 times its factor with live option 1.
+const fn alternative([dead, live, roof, snow, wind, earthquake]: [i64; 6]) -> Factors {
+    let earth = 21_000;
+    let columns = [
+        dead, 21_000, earth, live, live, roof, snow, wind, earthquake, 0,
+    ];
+    let mut row = factors(earth, columns);
+    row.wind_increased = wind * 13 / 10;
+    row.straining = 21;
+    row
 }
 
 /// A row with flood, in which E has no factor.
 const fn flood(mut row: Factors, wind: i64, flood: i64) -> Factors {
     row.wind = wind;
+    row.wind_increased = wind;
     row.earthquake = 0;
     row.flood = flood;
     row
@@ -102,6 +128,7 @@ const fn flood(mut row: Factors, wind: i64, flood: i64) -> Factors {
 /// A row with ice, in which W, Lr and R have no factor.
 const fn ice(mut row: Factors, snow: i64, ice: i64, wind_on_ice: i64) -> Factors {
     row.wind = 0;
+    row.wind_increased = 0;
     row.roof = 0;
     row.snow = snow;
     row.ice = ice;
@@ -117,7 +144,7 @@ pub struct Terms {
     pub fluid: i64,
     /// The effects of Hp and Hv that are above 0, which take the full factor.
     pub earth: i64,
-    /// The effects of Hp that are below 0, which take the low factor.
+    /// The effects of Hp that are below 0, which take the low factor where there is one.
     pub earth_low: i64,
     pub live: i64,
     /// The greatest effect of Lr, S and R; in those below, the greatest of the kind.
@@ -151,45 +178,54 @@ pub fn governing(settings: Settings, t: &Terms) -> Governing {
         ($($row:literal)*) => {{
             $(
                 let factors = const { &ROWS[$row] };
-                let value = factors.value(settings.live, t) + if factors.strained { strained } else { 0 };
+                let value = factors.value(settings.live, t) + factors.straining * strained;
                 if value > best.value {
                     best = Governing { value, row: $row };
                 }
             )*
         }};
     }
-    if settings.method == 1 {
-        compare!(1 2 3 4 5 6 7 8);
-        match settings.zone {
-            0 => {}
-            1 => compare!(9 10),
-            _ => compare!(11 12),
+    match settings.method {
+        1 => {
+            compare!(1 2 3 4 5 6 7 8);
+            match settings.zone {
+                0 => {}
+                1 => compare!(9 10),
+                _ => compare!(11 12),
+            }
+            if settings.ice {
+                compare!(13 14 15);
+            }
         }
-        if settings.ice {
-            compare!(13 14 15);
+        2 => {
+            compare!(21 22 23 24 25 26 27 28 29 30);
+            match settings.zone {
+                0 => {}
+                1 => compare!(31 32 33 34 35),
+                _ => compare!(36 37 38 39 40),
+            }
+            if settings.ice {
+                compare!(41 42 43);
+            }
         }
-    } else {
-        compare!(21 22 23 24 25 26 27 28 29 30);
-        match settings.zone {
-            0 => {}
-            1 => compare!(31 32 33 34 35),
-            _ => compare!(36 37 38 39 40),
-        }
-        if settings.ice {
-            compare!(41 42 43);
-        }
+        _ => compare!(51 52 53 54 55 56 57 58 59),
     }
     best
 }
 
 impl Factors {
+    /// Whether an Hp case may take a low factor.
+    pub fn has_low(&self) -> bool {
+        self.earth_low != self.earth
+    }
+
     /// The greatest factored effect of the row without T, its terms in the order in which rows share the most.
     #[inline(always)]
     fn value(&self, live: u8, t: &Terms) -> i64 {
-        let live = if live == 1 {
-            self.live_reduced
+        let (live, wind) = if live == 1 {
+            (self.live_reduced, self.wind_increased)
         } else {
-            self.live
+            (self.live, self.wind)
         };
         self.earth * t.earth
             + self.earth_low * t.earth_low
@@ -198,7 +234,7 @@ impl Factors {
             + live * t.live
             + self.roof * t.roof
             + self.snow * t.snow
-            + self.wind * t.wind
+            + wind * t.wind
             + self.earthquake * t.earthquake
             + self.flood * t.flood
             + self.ice * t.ice

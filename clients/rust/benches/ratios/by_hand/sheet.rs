@@ -27,6 +27,17 @@ pub struct Settings {
     pub straining: u16,
 }
 
+impl Settings {
+    /// What stands for a load factor of 1.
+    #[inline(always)]
+    pub fn unit(self) -> i64 {
+        match self.method {
+            3 => 21_000,
+            _ => 1000,
+        }
+    }
+}
+
 /// The settings of a fresh sheet.
 pub const SETTINGS: Settings = Settings {
     method: 1,
@@ -99,7 +110,12 @@ impl Sheet {
     }
 
     fn restart(&mut self, method: u8, live: u8, zone: u8) -> Result<(), Refused> {
-        if !(1..=2).contains(&method) || live > 1 || zone > 2 {
+        let last_zone = match method {
+            1 | 2 => 2,
+            3 => 0,
+            _ => return Err(4),
+        };
+        if live > 1 || zone > last_zone {
             return Err(4);
         }
         *self = Sheet::fresh(Settings {
@@ -112,6 +128,9 @@ impl Sheet {
     }
 
     fn set_ice(&mut self, ice: u8) -> Result<(), Refused> {
+        if self.settings.method == 3 {
+            return Err(16);
+        }
         if ice > 1 {
             return Err(4);
         }

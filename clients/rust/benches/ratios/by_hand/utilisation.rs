@@ -31,7 +31,7 @@ impl Sheet {
         let (acting, low) = station.combination(pattern, governing.row);
         Utilisation {
             numerator: governing.value as u64,
-            denominator: (1000 * n * y * z) as u64,
+            denominator: (self.settings.unit() * n * y * z) as u64,
             row: governing.row as u8,
             acting,
             low,
@@ -158,8 +158,7 @@ impl Station<'_> {
         let sum: i64 = cases(p[F]).map(effect).sum();
         let full = if sum > 0 { p[F] } else { 0 };
         let permanent = with(f.earth, p[HP]);
-        let strained = if f.strained { p[T] } else { 0 };
-        let free = with(f.earth, p[HV]) | with(f.live, p[L]) | strained;
+        let free = with(f.earth, p[HV]) | with(f.live, p[L]) | with(f.straining, p[T]);
         let acting = p[D]
             | with(f.fluid, full)
             | permanent
@@ -170,7 +169,8 @@ impl Station<'_> {
             | one(with(f.flood, p[FA]))
             | one(with(f.ice, p[DI]))
             | one(with(f.wind_on_ice, p[WI]));
-        (acting, above(permanent, |case| -effect(case)))
+        let at_low = if f.has_low() { permanent } else { 0 };
+        (acting, above(at_low, |case| -effect(case)))
     }
 }
 
