@@ -43,7 +43,7 @@ sums_of kinds effects = sums_by (of_dead_kind kinds) effects
 pub record SumsHeld (kinds : List ℕ) (effects sums : List ℤ) : Type 0 where
   pub effects_long : length effects ≡ effect_count
   pub effects_range : (i : ℕ) → nat_abs (get_or effects i (pos 0)) ≤ effect_limit
-  pub sums_are_lem : sums ≡ sums_of kinds effects
+  pub sums_true : sums ≡ sums_of kinds effects
 
 -- a sum with an effect replaced
 abbrev pub moved_by : ℤ → ℤ → ℤ → ℤ

@@ -41,7 +41,7 @@ serves_both sums kind e below small h =
         as_is = ap (best_of s) (λ i row. value_is sums kind e below h s row i);
         turned = ap (best_of s) (λ i row. negated_value_is sums kind e below h s row i);
       };
-      fluid_acts_lem = record { as_is = fluid_is sums kind e below h; turned = negated_fluid_is sums kind e below h };
+      tells_fluid = record { as_is = fluid_is sums kind e below h; turned = negated_fluid_is sums kind e below h };
     }
 
 pub component_served : (sums : List ℕ) (totals : ℕ → ℤ) (places : List ℕ) (e : ℕ → ℤ) → ((k : ℕ) → nat_abs (e k) ≤ effect_most) → SumsOf sums totals places e kind_count →
@@ -87,7 +87,7 @@ module _ (s0 s1 s2 s3 : List ℕ) (kind : ℕ → ℕ) (effect : ℕ → ℕ →
 
   pub fluid_served : (i : ℕ) → i ≤ 7 → fluid_in s0 s1 s2 s3 i ≡ acts_together kind (weighed (pattern_of p i) effect) fluid
   fluid_served =
-      eight p effect fluid_acts (λ x. acts_together kind x fluid) s0 s1 s2 s3 h.first.fluid_acts_lem h.second.fluid_acts_lem h.third.fluid_acts_lem h.fourth.fluid_acts_lem false
+      eight p effect fluid_acts (λ x. acts_together kind x fluid) s0 s1 s2 s3 h.first.tells_fluid h.second.tells_fluid h.third.tells_fluid h.fourth.tells_fluid false
 
 -- ---- the totals in a direction
 module _ (totals : ℕ → ℕ → ℤ) (kind : ℕ → ℕ) (effect : ℕ → ℕ → ℤ) (h : AllTotalsOf totals kind effect) (w : Weights) (j : ℕ) (l : j < total_count) where

@@ -19,7 +19,7 @@ pub record BothWays {A : Type 0} (reads : List ℕ → (over under : ℕ) → A)
 pub record ServesBoth (sums : List ℕ) (kind : ℕ → ℕ) (e : ℕ → ℤ) : Type 0 where
   pub ready : Ready sums
   pub governs : (s : Settings) → BothWays (toward_of s) (governing_of s kind) sums e
-  pub fluid_acts_lem : BothWays fluid_acts (λ x. acts_together kind x fluid) sums e
+  pub tells_fluid : BothWays fluid_acts (λ x. acts_together kind x fluid) sums e
 
 -- One pass in four directions serves the eight patterns of signs: each direction is a pattern and, with its sign turned, the opposite one.
 pub record ServesPatterns (s0 s1 s2 s3 : List ℕ) (kind : ℕ → ℕ) (effect : ℕ → ℕ → ℤ) (p : Capacities) : Type 0 where

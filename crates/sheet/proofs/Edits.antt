@@ -36,7 +36,7 @@ module _ (due : ℕ → ℕ) (rest : Rest) (effects sums : List ℤ) (case : ℕ
 
 -- what the stores on effects ask of a sheet in range
 pub sums_held : (rest : Rest) (effects sums : List ℤ) → InRange (whole rest effects sums) → SumsHeld rest.kinds effects sums
-sums_held rest effects sums h = record { effects_long = h.effects_long; effects_range = h.effects_range; sums_are_lem = h.sums_true }
+sums_held rest effects sums h = record { effects_long = h.effects_long; effects_range = h.effects_range; sums_true = h.sums_true }
 
 -- a place emptied: its effects are cleared while it holds its kind
 pub emptied : (rest : Rest) (effects sums : List ℤ) (case : ℕ) {rest' : Rest} {effects' sums' : List ℤ} → InRange (whole rest effects sums) → case < case_count →

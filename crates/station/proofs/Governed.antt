@@ -83,10 +83,10 @@ module _ {s : Settings} {kinds : List ℕ} {effects totals : List ℤ} {componen
 
   -- whether the F cases act
   pub raised_acts : {acts : Bool} → acts ≡ fluid_acts sums 0 1 → acts ≡ acts_together kind effect fluid
-  raised_acts e = e ∙ served.fluid_acts_lem.as_is
+  raised_acts e = e ∙ served.tells_fluid.as_is
 
   pub lowered_acts : {acts : Bool} → acts ≡ fluid_acts sums 1 0 → acts ≡ acts_together kind opposed fluid
-  lowered_acts e = e ∙ served.fluid_acts_lem.turned
+  lowered_acts e = e ∙ served.tells_fluid.turned
 
 -- ---- the utilisation
 module _ {s : Settings} {kinds : List ℕ} {effects totals : List ℤ} {p : Capacities}

@@ -8,7 +8,7 @@ use Rattle.dead_sums.proofs.clear_case.Goals as goal
 
 pub loop-t-init : goal.loop-t-init
 unfolding cleared
-loop-t-init c = (omega arith, refl, c.requires.1.sums_are_lem)
+loop-t-init c = (omega arith, refl, c.requires.1.sums_true)
 
 pub put_effects-requires : goal.put_effects-requires
 put_effects-requires c =
@@ -22,7 +22,7 @@ put_effects-requires c =
       record {
         effects_long = ap length l.invariant.1 ∙ length_cleared c.args.effects.now c.args.case l.t ∙ h.effects_long;
         effects_range = λ i. rw l.invariant.1 (cleared_within c.args.effects.now c.args.case l.t i (h.effects_range i));
-        sums_are_lem = l.invariant.2;
+        sums_true = l.invariant.2;
       },
     )
 

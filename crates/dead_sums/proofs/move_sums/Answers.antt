@@ -22,7 +22,7 @@ module _ (kinds : List ℕ) (effects sums : List ℤ) (held : SumsHeld kinds eff
       after ≡ sums_moved sums at effects (place case station) (to_z w16 (of_z w16 n)) (to_z w16 (of_z w16 y)) (to_z w16 (of_z w16 z)) →
       after ≡ sums_of kinds (sets effects (place case station) (n ∷ y ∷ z ∷ []))
   kind_moved case station a b which at l place_is kind e =
-      e ∙ (λ i. sums_moved (held.sums_are_lem i) (place_is i) effects (place case station) (to_z-of_z w16 n fn i) (to_z-of_z w16 y fy i) (to_z-of_z w16 z fz i))
+      e ∙ (λ i. sums_moved (held.sums_true i) (place_is i) effects (place case station) (to_z-of_z w16 n fn i) (to_z-of_z w16 y fy i) (to_z-of_z w16 z fz i))
       ∙ moved_are (of_dead_kind kinds) effects case station n y z held.effects_long a b which l
       (eq-eqb (get_or kinds case 0) (suc which) kind) (λ w m ne. ne_eqb (get_or kinds case 0) (suc w) (λ q. ne (omega (arith, kind, q))))
 
@@ -31,7 +31,7 @@ module _ (kinds : List ℕ) (effects sums : List ℤ) (held : SumsHeld kinds eff
       MovesInRange sums effects (to_z w16 (of_z w16 n)) (to_z w16 (of_z w16 y)) (to_z w16 (of_z w16 z))
   in_range a b c =
       record {
-        sums_range = λ i. rw held.sums_are_lem (sums_within (of_dead_kind kinds) effects held.effects_range i);
+        sums_range = λ i. rw held.sums_true (sums_within (of_dead_kind kinds) effects held.effects_range i);
         effects_range = held.effects_range;
         n_range = rw (to_z-of_z w16 n fn) a;
         y_range = rw (to_z-of_z w16 y fy) b;
@@ -62,6 +62,6 @@ pub returns-in_default : goal.returns-in_default
 returns-in_default c =
     let a = c.args in
     let h = c.requires.5 in
-    h.sums_are_lem
+    h.sums_true
     ∙ uncounted (of_dead_kind a.kinds.now) a.effects.now a.case a.station a.n a.y a.z h.effects_long c.requires.0 c.requires.1
     (none (get_or a.kinds.now a.case 0) (λ q. omega arith) (λ q. omega arith))
