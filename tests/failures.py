@@ -7,7 +7,6 @@ import functools
 import os
 import pty
 import resource
-import signal
 import socket
 import struct
 import subprocess
@@ -102,9 +101,9 @@ def reader_gone_ignored(binary):
     agrees(reader_gone(binary, restore_signals=False), b'', line('write', errno.EPIPE))
 
 
-@holds('a reader that is gone, SIGPIPE at its default: the service ends by the signal without a word')
+@holds('a reader that is gone, SIGPIPE at its default: the same, since the service ignores the signal itself')
 def reader_gone_signal(binary):
-    agrees(reader_gone(binary), b'', b'', -signal.SIGPIPE)
+    agrees(reader_gone(binary), b'', line('write', errno.EPIPE))
 
 
 @holds('a file at its size limit: it has the answers up to there, and "frames: write: File too large"')

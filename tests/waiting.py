@@ -175,9 +175,9 @@ def reader_goes_ignored(binary):
     agrees(reader_goes(binary, restore_signals=False), b'', line('write', errno.EPIPE))
 
 
-@holds('the reader goes while the service waits for it, SIGPIPE at its default: it ends by the signal without a word')
+@holds('the reader goes while the service waits for it, SIGPIPE at its default: the same')
 def reader_goes_signal(binary):
-    agrees(reader_goes(binary), b'', b'', -signal.SIGPIPE)
+    agrees(reader_goes(binary), b'', line('write', errno.EPIPE))
 
 
 @holds('one socket with O_NONBLOCK as input and output: all answers, and little processor time in waits')

@@ -1,8 +1,7 @@
 /* A dead load of 10 kN, a live load of 5 kN and winds of -20 kN and 8 kN on N at station 0 (frame P2 of docs/SCOPE.md, 11.1). Prints the
-   extremes of N and the names of the cases that act, and shows a refusal. From the root of the repository, after `rt lib` in
-   crates/frames_c:
+   extremes of N and the names of the cases that act, and shows a refusal. From the root of the repository, after `./archive`:
 
-       cc -I clients/c clients/c/example.c crates/frames_c/out/libframes_c.a -o crates/frames_c/out/example && crates/frames_c/out/example */
+       cc -I clients/c clients/c/example.c target/staticlib/libframes_c.a -o target/example_c && target/example_c */
 #include <inttypes.h>
 #include <stdio.h>
 

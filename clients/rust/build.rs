@@ -1,4 +1,4 @@
-//! Links the archive `libframes_c.a` from the directory in FRAMES_LIB (an absolute path), or from crates/frames_c/out of the
+//! Links the archive `libframes_c.a` from the directory in FRAMES_LIB (an absolute path), or from target/staticlib of the
 //! repository.
 
 use std::env;
@@ -9,13 +9,13 @@ fn main() {
     let folder = match env::var_os("FRAMES_LIB") {
         Some(folder) => PathBuf::from(folder),
         None => PathBuf::from(env::var_os("CARGO_MANIFEST_DIR").expect("cargo sets it"))
-            .join("../../crates/frames_c/out"),
+            .join("../../target/staticlib"),
     };
     let archive = folder.join("libframes_c.a");
     println!("cargo:rerun-if-changed={}", archive.display());
     if !archive.is_file() {
         eprintln!("{} is missing.", archive.display());
-        eprintln!("Build it with `rt lib` in crates/frames_c of the repository,");
+        eprintln!("Build it with `./archive` in the root of the repository,");
         eprintln!("or set FRAMES_LIB to the directory that holds it.");
         std::process::exit(1);
     }

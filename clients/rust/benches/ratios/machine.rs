@@ -12,7 +12,7 @@ pub fn report() {
     let lines = [
         format!("Machine: {cpu}, {cores} cores, Linux {kernel}."),
         format!("By hand: {rustc}, opt-level 3, lto fat, one codegen unit, {features}."),
-        "Proved: the whole module through LLVM at -O3, baseline x86-64.".to_string(),
+        "Proved: the whole module through LLVM at -O3, x86-64-v2.".to_string(),
         "Buffers: the same in every round, so they are in cache, but for the file of 10 MB.".to_string(),
         "Clock: in one process, the time that the thread was on a processor; through a pipe, the time that passed."
             .to_string(),
@@ -40,8 +40,8 @@ fn rustc() -> String {
 
 /// Both sides are to have the same instructions.
 fn features() -> &'static str {
-    match cfg!(target_feature = "sse3") {
-        false => "baseline x86-64",
-        true => "more than baseline x86-64, so not comparable",
+    match cfg!(all(target_feature = "sse4.2", not(target_feature = "avx"))) {
+        true => "x86-64-v2",
+        false => "not x86-64-v2, so not comparable",
     }
 }
