@@ -1,4 +1,4 @@
--- What the exported calls come to: the fields answered, and the refusals.
+-- What the calls come to: the fields answered, and the refusals.
 -- Assumes nothing.
 use Prim.Native.Nat.{ℕ, ◌*◌, ◌≤◌}
 use mathlib.Core.Path.{◌≡◌, refl, ◌∙◌, ap}

@@ -1,4 +1,4 @@
--- Lists of fields on a sheet that is given as its saved bytes: what each exported call answers, writes and saves.
+-- Lists of fields on a sheet that is given as its saved bytes: what each call answers, writes and saves.
 use Rattle.std.specs.Prelude.{ℕ, List, ◌≡◌, cond, length, ltb, eqb}
 use Rattle.wire.specs.Bytes.{over}
 use Rattle.lists.specs.Lists.{fields_of, short, sheet_after, answers_to, bytes_of}

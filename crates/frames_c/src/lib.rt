@@ -1,7 +1,7 @@
 #![tactic(auto)]
 
-// For programs in C and Rust: lists of fields, answered on a sheet that is given as its saved bytes, and case names in a file. No call keeps
-// a state.
+// Lists of fields, answered on a sheet that is given as its saved bytes, and case names in a file. No call keeps a state. `frames_c_c`
+// exports the calls to programs in C and Rust.
 ghost use Rattle.std.specs.Prelude.{◌≡◌, length};
 ghost use Rattle.lists.specs.Lists.{fields_of};
 ghost use Rattle.drawing.specs.Names.{name_place};

@@ -1,6 +1,6 @@
 #![tactic(auto)]
 
-// One file for both readers (SCOPE 9.7), by the exported calls: the file without its names makes the same sheet, the fields that remain
+// One file for both readers (SCOPE 9.7), by the calls of `frames_c`: the file without its names makes the same sheet, the fields that remain
 // have the same answers, and no name is left. The places that `frames_name` gives are the second program's.
 
 ghost use Rattle.std.specs.Prelude.{◌<◌, ◌≤◌, length};
@@ -11,7 +11,7 @@ use recheck_names::{after_field, is_left_out, name_of, without_names};
 use recheck_tally::{answers_buffer, input_buffer};
 use std::num::wrapping_add_u64;
 
-// The exported calls are given more bytes to save into than any sheet has.
+// The calls of `frames_c` are given more bytes to save into than any sheet has.
 const SAVED_ROOM: usize = 8192;
 
 // How many bytes a file and its answers have at most.
@@ -117,7 +117,7 @@ fn runs_agree(file: &[u8], refused: bool, rest: &[u8]) -> bool
     false
 }
 
-// Whether the exported call gives the case's name, for every case that there is and some above; where none is due, that there is none.
+// Whether `frames_c` gives the case's name, for every case that there is and some above; where none is due, that there is none.
 fn names_agree(file: &[u8], none: bool) -> bool
     requires { length file.now < 1000000 }
 {

@@ -26,7 +26,7 @@ use recheck_two_lists::{ROOM, at_stations, worked_lists_agree};
 use sheet::Sheet;
 use std::num::{wrapping_add_u64, wrapping_add_usize};
 
-// The exported calls are given more bytes to save into than any sheet has.
+// The calls of `frames_c` are given more bytes to save into than any sheet has.
 const SAVED_ROOM: usize = 8192;
 
 // The reader's sheet, the second checker's working sheet, the place of the next field, and that of its answer among those of

@@ -16,19 +16,19 @@ pub const NAME: &str = "name";
 
 /// The bounds are the counts of the library as it is; they are set here alone.
 pub const LISTS: [Counted; 14] = [
-    counted("03", 1, 8, 324),
-    counted("03", 1, 32, 323),
-    counted("02/04", 1, 8, 330),
-    counted("02/04", 1, 32, 324),
-    counted("06", 1, 8, 1704),
-    counted("06", 1, 32, 2406),
-    counted("06", 2, 8, 1726),
-    counted("06", 2, 32, 2455),
-    counted("07", 1, 8, 3088),
-    counted("07", 1, 32, 4179),
-    counted("07", 2, 8, 3222),
-    counted("07", 2, 32, 4359),
-    counted("60", 1, 8, 223),
+    counted("03", 1, 8, 391),
+    counted("03", 1, 32, 390),
+    counted("02/04", 1, 8, 387),
+    counted("02/04", 1, 32, 384),
+    counted("06", 1, 8, 1656),
+    counted("06", 1, 32, 2358),
+    counted("06", 2, 8, 1674),
+    counted("06", 2, 32, 2403),
+    counted("07", 1, 8, 3080),
+    counted("07", 1, 32, 4202),
+    counted("07", 2, 8, 3194),
+    counted("07", 2, 32, 4369),
+    counted("60", 1, 8, 288),
     counted(NAME, 1, 8, 20),
 ];
 
