@@ -56,25 +56,25 @@ module _ (d : Chosen) (range : ChosenInRange d) (c : Chosen) (is : c ≡ d) wher
   chosen_small = subst ChosenInRange (sym is) range
 
   module _ (x : ℕ → ℤ) (earth free roof wind quake flood ice icewind : Marked)
-      (is-earth : earth ≡ marked_in (has c.earth) x case_count) (is_free : free ≡ marked_in (has c.free) x case_count)
-      (is-roof : roof ≡ marked_in (has c.roof) x case_count) (is-wind : wind ≡ marked_in (has c.wind) x case_count)
-      (is-quake : quake ≡ marked_in (has c.quake) x case_count) (is-flood : flood ≡ marked_in (has c.flood) x case_count)
-      (is-ice : ice ≡ marked_in (has c.ice) x case_count) (is-icewind : icewind ≡ marked_in (has c.icewind) x case_count) where
+      (is_earth : earth ≡ marked_in (has c.earth) x case_count) (is_free : free ≡ marked_in (has c.free) x case_count)
+      (is_roof : roof ≡ marked_in (has c.roof) x case_count) (is_wind : wind ≡ marked_in (has c.wind) x case_count)
+      (is_quake : quake ≡ marked_in (has c.quake) x case_count) (is_flood : flood ≡ marked_in (has c.flood) x case_count)
+      (is_ice : ice ≡ marked_in (has c.ice) x case_count) (is_icewind : icewind ≡ marked_in (has c.icewind) x case_count) where
     pub marked_small : MarkedSets c.always earth free roof wind quake flood ice icewind
     marked_small =
         record {
           always_small = chosen_small.always;
           free_small = above_small (has c.free) x free is_free;
-          roof_small = lead_small (has c.roof) x roof is-roof;
-          wind_small = lead_small (has c.wind) x wind is-wind;
-          quake_small = lead_small (has c.quake) x quake is-quake;
-          flood_small = lead_small (has c.flood) x flood is-flood;
-          ice_small = lead_small (has c.ice) x ice is-ice;
-          icewind_small = lead_small (has c.icewind) x icewind is-icewind;
+          roof_small = lead_small (has c.roof) x roof is_roof;
+          wind_small = lead_small (has c.wind) x wind is_wind;
+          quake_small = lead_small (has c.quake) x quake is_quake;
+          flood_small = lead_small (has c.flood) x flood is_flood;
+          ice_small = lead_small (has c.ice) x ice is_ice;
+          icewind_small = lead_small (has c.icewind) x icewind is_icewind;
         }
 
     pub named_is : (r : Sets) → r ≡ named_by c.always earth free roof wind quake flood ice icewind → r ≡ named_of d x
     unfolding named_of
     named_is r e =
-        e ∙ (λ i. named_by c.always (is-earth i) (is_free i) (is-roof i) (is-wind i) (is-quake i) (is-flood i) (is-ice i) (is-icewind i))
+        e ∙ (λ i. named_by c.always (is_earth i) (is_free i) (is_roof i) (is_wind i) (is_quake i) (is_flood i) (is_ice i) (is_icewind i))
         ∙ ap (λ (a : Chosen). named_of a x) is

@@ -36,5 +36,5 @@ module _ (picks : List ℕ → Bool) (only : PicksNames picks) where
 
 pub names_left_out : NamesLeftOut
 names_left_out picks only ms s r =
-    let others-read = remain picks only ms _ s r in
-    (others-read, sym (works_out others-read) ∙ works_out r)
+    let others_read = remain picks only ms _ s r in
+    (others_read, sym (works_out others_read) ∙ works_out r)

@@ -36,7 +36,7 @@ when_none true = refl
 when_none false = refl
 
 module _ (n G : ℕ) (grp f hi lo u d φ : ℕ → ℕ)
-    (one-sided : (k : ℕ) → 0 < u k → d k ≡ 0)
+    (one_sided : (k : ℕ) → 0 < u k → d k ≡ 0)
     (grouped : (k : ℕ) → grp k < G → (hi k ≡ 0) × (lo k ≡ 0))
     (own_up : (k : ℕ) → G ≤ grp k → 0 < u k → φ k ≡ hi k)
     (own_down : (k : ℕ) → G ≤ grp k → 0 < d k → φ k ≡ lo k)
@@ -72,7 +72,7 @@ module _ (n G : ℕ) (grp f hi lo u d φ : ℕ → ℕ)
   leader_up false k = omega arith
 
   leader_down : (b : Bool) (k : ℕ) → when (b && ltb 0 (u k)) (f k) * d k ≡ 0
-  leader_down true k = ltb_cases 0 (u k) (λ c. when c (f k) * d k ≡ 0) (λ h. zero_right (f k) (d k) (one-sided k h)) (λ _. omega arith)
+  leader_down true k = ltb_cases 0 (u k) (λ c. when c (f k) * d k ≡ 0) (λ h. zero_right (f k) (d k) (one_sided k h)) (λ _. omega arith)
   leader_down false k = omega arith
 
   case_up : (k : ℕ) → φ k * u k ≡ hi k * u k + sum G (λ g. led n grp f u g k)

@@ -123,7 +123,7 @@ module _ (s0 s1 s2 s3 : List ℕ) (totals : List ℤ) (places : List ℕ) (effec
   small = directed_most effects (pattern_of p 0) r (pattern_in_range p 0 c)
 
   -- a direction is a pattern
-  module _ (kind : ℕ → ℕ) (below : (k : ℕ) → kind k < kind_count) (placed : Places places kind) (true-totals : AllTotalsOf (effect_of totals) kind (effect_of effects)) where
+  module _ (kind : ℕ → ℕ) (below : (k : ℕ) → kind k < kind_count) (placed : Places places kind) (true_totals : AllTotalsOf (effect_of totals) kind (effect_of effects)) where
     served : (sums : List ℕ) (i : ℕ) (way : Directions → ℤ) →
         ((k : ℕ) → way (ways k) ≡ weighed (pattern_of p i) (effect_of effects) k) → ((k : ℕ) → nat_abs (way (ways k)) ≤ effect_most) →
         ((j : ℕ) → j < total_count → way (total_ways j) ≡ total_of kind (λ k. way (ways k)) (suc j)) →
@@ -135,10 +135,10 @@ module _ (s0 s1 s2 s3 : List ℕ) (totals : List ℤ) (places : List ℕ) (effec
     pub patterns_in : ServesPatterns s0 s1 s2 s3 kind (effect_of effects) p
     patterns_in =
         record {
-          first = served s0 0 (λ d. d.first) (λ k. pattern_directed p (effect_of effects) k 0 false false refl refl refl) (λ k. (small k).first) (λ j l. direction_total (effect_of totals) kind (effect_of effects) true-totals (pattern_of p 0) j l false false) h.first;
-          second = served s1 1 (λ d. d.second) (λ k. pattern_directed p (effect_of effects) k 1 true false refl refl refl) (λ k. (small k).second) (λ j l. direction_total (effect_of totals) kind (effect_of effects) true-totals (pattern_of p 0) j l true false) h.second;
-          third = served s2 2 (λ d. d.third) (λ k. pattern_directed p (effect_of effects) k 2 false true refl refl refl) (λ k. (small k).third) (λ j l. direction_total (effect_of totals) kind (effect_of effects) true-totals (pattern_of p 0) j l false true) h.third;
-          fourth = served s3 3 (λ d. d.fourth) (λ k. pattern_directed p (effect_of effects) k 3 true true refl refl refl) (λ k. (small k).fourth) (λ j l. direction_total (effect_of totals) kind (effect_of effects) true-totals (pattern_of p 0) j l true true) h.fourth;
+          first = served s0 0 (λ d. d.first) (λ k. pattern_directed p (effect_of effects) k 0 false false refl refl refl) (λ k. (small k).first) (λ j l. direction_total (effect_of totals) kind (effect_of effects) true_totals (pattern_of p 0) j l false false) h.first;
+          second = served s1 1 (λ d. d.second) (λ k. pattern_directed p (effect_of effects) k 1 true false refl refl refl) (λ k. (small k).second) (λ j l. direction_total (effect_of totals) kind (effect_of effects) true_totals (pattern_of p 0) j l true false) h.second;
+          third = served s2 2 (λ d. d.third) (λ k. pattern_directed p (effect_of effects) k 2 false true refl refl refl) (λ k. (small k).third) (λ j l. direction_total (effect_of totals) kind (effect_of effects) true_totals (pattern_of p 0) j l false true) h.third;
+          fourth = served s3 3 (λ d. d.fourth) (λ k. pattern_directed p (effect_of effects) k 3 true true refl refl refl) (λ k. (small k).fourth) (λ j l. direction_total (effect_of totals) kind (effect_of effects) true_totals (pattern_of p 0) j l true true) h.fourth;
         }
 
   pub patterns_served : PatternPass s0 s1 s2 s3 (effect_of totals) places (effect_of effects) p

@@ -2,8 +2,20 @@
 use Rattle.std.proofs.Common.{◌≡◌, sym, ◌∙◌, List, append-nil, Bool, true, false, ℕ, ◌+◌, ◌-◌, ◌≤◌, length, take, drop, add-one, length-take, length-drop, arith}
 use Rattle.std.proofs.Math.Nat.{add-zero}
 use Rattle.std.proofs.lemmas.List.{take_all}
+use mathlib.Core.List.{◌++◌, append_assoc}
+use lib.Seq.{take-length, length-take-le, take-append-add, take-append_seam}
+use borrow.Rule.Slice.PartMut.{put_mid, post_of}
 use Rattle.recheck_names.specs.Names.{after_field, field_place, is_left_out, kept_at, kept_up_to, without_names}
 use Rattle.recheck_names.specs.Results.{Kept}
+
+front : (p part z post : List ℕ) (n : ℕ) → length p ≡ n → take (n + length part) (p ++ ((part ++ z) ++ post)) ≡ p ++ part
+front p part z post n e = rw (← e, take-append-add, append_assoc, take-append_seam)
+
+-- bytes put from a place on stand there, after what stood before it
+pub put_taken : (part out z : List ℕ) (to : ℕ) {n : ℕ} {ys : List ℕ} → to + length part ≤ length out → n ≡ length part → ys ≡ take (length part) part ++ z → take (to + n) (put_mid to (length out - to) out ys) ≡ take to out ++ part
+put_taken part out z to h p q =
+    rw (q, p, take-length)
+    (front (take to out) part z (post_of to (length out - to) out) to (length-take-le to out (omega arith)))
 
 -- a part that goes to the end of the file
 rest : (file : List ℕ) (at : ℕ) → take (length file - at) (drop at file) ≡ drop at file

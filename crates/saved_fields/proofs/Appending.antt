@@ -3,11 +3,12 @@
 use Prim.Native.Nat.{ℕ, suc, ◌+◌, ◌*◌, ◌≤◌, ◌<◌}
 use mathlib.Core.Path.{◌≡◌, refl, ◌∙◌}
 use mathlib.Core.List.{List, [], ◌++◌}
-use mathlib.Core.Bool.{Bool, cond}
+use mathlib.Core.Bool.{Bool, cond, ◌&&◌}
 use native.Mathlib.Numerals.{add-one}
 use native.Mathlib.Nat.{suc-mul, mul-le-mul_right}
 use native.Mathlib.Omega.{arith}
 use borrow.Author.Tests.{ne_eqb}
+use lib.Dec.{eqb}
 use lib.IntN.{ℤ}
 use lib.ListN.{length, take, drop}
 use lib.Seq.{sets, take-append_seam}
@@ -15,6 +16,7 @@ use mir.Syntax.{w16}
 use mir.Val.{SFits}
 use mir.ValLaws.{to_z-of_z}
 use Rattle.wire.specs.Bytes.{signed16, bits16, over, Put}
+use Rattle.wire.proofs.Complement.{zero_bits}
 use Rattle.wire.proofs.Stores.{put_none, put_long, put_two, front}
 use Rattle.saved_fields.specs.Saved.{up_to, words, all_zero, effects_field, fill_field, capacities_field, station_bytes, case_bytes, capacity_bytes}
 use Rattle.saved_fields.proofs.Lengths.{up_to_most}
@@ -51,7 +53,16 @@ module _ (f : ℕ → List ℕ) (n : ℕ) (o : List ℕ) (i : ℕ) {out : List �
     put = rw up_to_more (put_two (up_to f t) (f t) o i h.put p);
   }
 
+  pub put_end : n ≤ t → Put o i (up_to f n) to out
+  put_end l =
+      let e : t ≡ n = omega arith in
+      rw e at h.put
+
 -- ---- what is put for a station or a place
+
+pub zero_by_bits : {n y z : ℤ} → SFits w16 n → SFits w16 y → SFits w16 z →
+    all_zero n y z ≡ (eqb (bits16 n) 0 && (eqb (bits16 y) 0 && eqb (bits16 z) 0))
+zero_by_bits {n} {y} {z} a b c = rw (zero_bits w16 n a, zero_bits w16 y b, zero_bits w16 z c)
 
 -- n is the effect, which a call passes on by its bits
 pub record Read (effect n : ℤ) : Type 0 where

@@ -21,7 +21,7 @@ use Rattle.standard.specs.Kinds.{classes, class_of, unknown, kind_count, group_c
 use Rattle.standard.specs.Range.{outside, method_outside, SettingsInRange}
 use Rattle.standard.specs.Rows.{Live, num, f, Line, blank, lines, live_factor, roof_factor, snow_factor, columns, row_count, fresh_settings, table_factor, straining_in, factor_of, low_of, Span, rows_to, plain_rows, by_zone, flood_rows, by_ice, ice_rows, open_rows, within, in_spans}
 use Rattle.standard.specs.Columns.{kinds_in}
-use Rattle.standard.proofs.Table.{tabulate, same_at, all, all_at, all₂, all₂-at}
+use Rattle.standard.proofs.Table.{tabulate, same_at, all, all_at, all₂, all₂_at}
 
 -- what holds of both arms holds of a choice
 of_both {ℓ} : {A : Type ℓ} (P : A → Type 0) (t : Bool) (x y : A) → P x → P y → P (cond t x y)
@@ -101,7 +101,7 @@ by_columns : (P : Class → ℕ → Bool) (halved : Bool) (l : Line) → T (P Un
     (k : ℕ) → T (P (class_of k) (get_or (columns halved l) k 0))
 unfolding class_of
 by_columns P halved l none t k =
-    subst (λ (x : ℕ). T (P (class_of k) x)) (padded (columns halved l) k) (all₂-at P classes (columns halved l ++ (0 ∷ [])) Unknown 0 none t k)
+    subst (λ (x : ℕ). T (P (class_of k) x)) (padded (columns halved l) k) (all₂_at P classes (columns halved l ++ (0 ∷ [])) Unknown 0 none t k)
 
 straining_class : (k : ℕ) → k ≡ self_straining → class_of k ≡ Subset
 unfolding class_of

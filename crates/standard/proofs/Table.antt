@@ -48,10 +48,10 @@ all₂ f [] (y ∷ ys) = false
 all₂ f (x ∷ xs) [] = false
 all₂ f (x ∷ xs) (y ∷ ys) = f x y && all₂ f xs ys
 
-pub all₂-at {ℓ₁ ℓ₂} : {A : Type ℓ₁} {B : Type ℓ₂} (f : A → B → Bool) (xs : List A) (ys : List B) (d : A) (e : B) →
+pub all₂_at {ℓ₁ ℓ₂} : {A : Type ℓ₁} {B : Type ℓ₂} (f : A → B → Bool) (xs : List A) (ys : List B) (d : A) (e : B) →
     T (f d e) → T (all₂ f xs ys) → (k : ℕ) → T (f (get_or xs k d) (get_or ys k e))
-all₂-at f [] [] d e n t k = n
-all₂-at f [] (y ∷ ys) d e n t k = absurd t
-all₂-at f (x ∷ xs) [] d e n t k = absurd t
-all₂-at f (x ∷ xs) (y ∷ ys) d e n t zero = and_left (f x y) (all₂ f xs ys) t
-all₂-at f (x ∷ xs) (y ∷ ys) d e n t (suc k) = all₂-at f xs ys d e n (and_right (f x y) (all₂ f xs ys) t) k
+all₂_at f [] [] d e n t k = n
+all₂_at f [] (y ∷ ys) d e n t k = absurd t
+all₂_at f (x ∷ xs) [] d e n t k = absurd t
+all₂_at f (x ∷ xs) (y ∷ ys) d e n t zero = and_left (f x y) (all₂ f xs ys) t
+all₂_at f (x ∷ xs) (y ∷ ys) d e n t (suc k) = all₂_at f xs ys d e n (and_right (f x y) (all₂ f xs ys) t) k

@@ -37,7 +37,8 @@ pub fn places_of(kinds: &[u8]) -> [u64; KINDS]
     let mut k: usize = 0;
     while k < CASES {
         let kind = kinds[k] as usize;
-        if 0 < kind {
+        let placed = 0 < kind;
+        if placed {
             places[kind] += bit;
         }
         bit = bit * 2;

@@ -247,12 +247,12 @@ terms_agree u d u' d' total other =
     }
 
 -- what the terms are made from: the totals of D and F, and what is held of the other kinds above zero and below
-record Terms-from (kind : ℕ → ℕ) (e : ℕ → ℤ) (u d : ℕ → ℕ) : Type 0 where
+record TermsFrom (kind : ℕ → ℕ) (e : ℕ → ℤ) (u d : ℕ → ℕ) : Type 0 where
   total : (j : ℕ) → j < total_count → excess u d (suc j) ≡ total_of kind e (suc j)
   others : (j : ℕ) → total_count < j → j < kind_count →
       (u j ≡ held_of j case_count (of_kind kind (λ k. up (e k)) j)) × (d j ≡ held_of j case_count (of_kind kind (λ k. down (e k)) j))
 
-module _ (kind : ℕ → ℕ) (e : ℕ → ℤ) (below : (k : ℕ) → kind k < kind_count) (u d : ℕ → ℕ) (h : Terms-from kind e u d) where
+module _ (kind : ℕ → ℕ) (e : ℕ → ℤ) (below : (k : ℕ) → kind k < kind_count) (u d : ℕ → ℕ) (h : TermsFrom kind e u d) where
   value_from : (s : Settings) (row : ℕ) → value_of s row (terms_by u d) ≡ row_maximum s row kind e
   unfolding Holds
   value_from s row =
@@ -269,14 +269,14 @@ module _ (kind : ℕ → ℕ) (e : ℕ → ℤ) (below : (k : ℕ) → kind k < 
 
 module _ (sums : List ℕ) (kind : ℕ → ℕ) (e : ℕ → ℤ) (below : (k : ℕ) → kind k < kind_count) (h : Summed sums kind e) where
   -- as they are
-  from_sums : Terms-from kind e (λ j. held_at sums j 0) (λ j. held_at sums j 1)
+  from_sums : TermsFrom kind e (λ j. held_at sums j 0) (λ j. held_at sums j 1)
   from_sums = record {
     total = λ j l. (λ i. pos (h.total j 0 l (omega arith) i) +ℤ neg_ℤ (pos (h.total j 1 l (omega arith) i))) ∙ of_parts (total_of kind e (suc j));
     others = λ j p l. (h.held j 0 p l (omega arith), h.held j 1 p l (omega arith));
   }
 
   -- and negated: what is above zero of the one is below zero of the other
-  from_negated : Terms-from kind (λ k. neg_ℤ (e k)) (λ j. held_at sums j 1) (λ j. held_at sums j 0)
+  from_negated : TermsFrom kind (λ k. neg_ℤ (e k)) (λ j. held_at sums j 1) (λ j. held_at sums j 0)
   from_negated = record {
     total = λ j l. (λ i. pos (h.total j 1 l (omega arith) i) +ℤ neg_ℤ (pos (h.total j 0 l (omega arith) i)))
         ∙ of_parts_negated (total_of kind e (suc j)) ∙ sym (total_negated kind (suc j) e);

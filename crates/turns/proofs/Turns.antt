@@ -35,6 +35,13 @@ held_is : (i : List ℕ) (from to : ℕ) → to ≤ length i → take (to - from
 unfolding over
 held_is i from to h = take_at (slice from to i) _ (to - from) (length-slice from to i h)
 
+pub moved_long : (from : ℕ) {held count : ℕ} {ended failed : Bool} {i i₁ i₂ : List ℕ} → Filled held count ended failed i i₁ → i₂ ≡ over (slice from count i₁) i₁ → length i₂ ≡ length i
+moved_long from {count = count} {i₁ = i₁} h e =
+    let w = slice from count i₁ in
+    let l : count ≤ length i₁ = omega (arith, h.most, h.same) in
+    let k : length w ≤ length i₁ = rw (length-slice from count i₁ l) (omega arith) in
+    ap length (e ∙ sym (front w i₁ k)) ∙ (length-sets i₁ 0 w ∙ h.same)
+
 -- the front of an output that holds the bytes w from its start on
 handed_is : (w o : List ℕ) {o' : List ℕ} {written given : ℕ} → length w ≤ length o → o' ≡ over w o → length o' ≡ length o → written ≡ length w →
     given ≡ length (take (written - 0) (drop 0 o')) → (take given o' ≡ w) × (given ≡ length w)

@@ -114,8 +114,8 @@ all_reached : (f : Frame) (v : ℤ) →
 unfolding reached
 all_reached f v none [] t = tt
 all_reached f v none (row ∷ rows) t =
-    let open-and-same = is_open_row f.settings row && same (in_row f row) v in
-    let h = and_left open-and-same (reached f v rows) t in (
+    let open_and_same = is_open_row f.settings row && same (in_row f row) v in
+    let h = and_left open_and_same (reached f v rows) t in (
       (
         best_combination f.settings row (kind_of f.kinds) (listed f.effects),
         refl,
@@ -127,7 +127,7 @@ all_reached f v none (row ∷ rows) t =
               (row_reached f.settings row (kind_of f.kinds) (listed f.effects) (and_left (is_open_row f.settings row) (same (in_row f row) v) h));
         },
       ),
-      all_reached f v none rows (and_right open-and-same (reached f v rows) t),
+      all_reached f v none rows (and_right open_and_same (reached f v rows) t),
     )
 
 -- the greatest number that is computed is the maximum

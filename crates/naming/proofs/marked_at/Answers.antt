@@ -5,7 +5,7 @@ use Rattle.integers.proofs.Machine.{read}
 use Rattle.envelope.specs.Range.{effect_of}
 use Rattle.envelope.specs.Directions.{turned}
 use Rattle.naming.specs.declared.Marked.{Marked}
-use Rattle.naming.proofs.Reading.{widened}
+use Rattle.naming.proofs.Reading.{effect_widened}
 use Rattle.naming.proofs.Marks.{Marking, marking_from, marking_end, Turn, turn}
 use Rattle.naming.proofs.marked_at.Goals as goal
 
@@ -48,7 +48,7 @@ loop-rest-preserved c =
     (at_lowest c.args.effects.now c.args.component c.args.minus c.args.set c.loop-rest.invariant c.lowest-k.ensures).after
     c.alone-bit.result _ c.with_case-m.result c.alone-bit.ensures
     (read c.signed-x.result c.signed-x.type_inv ∙ c.signed-x.ensures
-    ∙ ap (turned c.args.minus) (widened c.args.effects.now c.requires.1 _ c.widen.result c.widen.type_inv c.widen.ensures))
+    ∙ ap (turned c.args.minus) (effect_widened c.args.effects.now c.requires.1 _ c.widen.result c.widen.type_inv c.widen.ensures))
     c.with_case-m.ensures
 
 pub returns : goal.returns

@@ -3,7 +3,7 @@ use Rattle.std.proofs.Common.{◌+◌, ℕ, List, refl, sym, subst, arith}
 use Rattle.envelope.specs.Range.{kind_of}
 use Rattle.sums.proofs.Gathered.{PlacesTo, no_places, empty_more, case_more, case_fits, bit_more}
 use Rattle.sums.proofs.places_of.Goals as goal
-use Rattle.sums.proofs.places_of.Goals.{then-kind-gt0, else-kind-gt0}
+use Rattle.sums.proofs.places_of.Goals.{then-placed, else-placed}
 
 pub loop-k-init : goal.loop-k-init
 loop-k-init c = record { within = omega arith; bit = refl; held = no_places (kind_of c.args.kinds.now) }
@@ -11,7 +11,7 @@ loop-k-init c = record { within = omega arith; bit = refl; held = no_places (kin
 pub overflow_add-places : goal.overflow_add-places
 overflow_add-places c =
     let h = c.loop-k in
-    omega (arith, case_fits h.places (kind_of c.args.kinds.now) h.k h.bit h.invariant.held h.invariant.bit (omega arith) c.if-kind-gt0.true (omega (arith, c.requires.range h.k)))
+    omega (arith, case_fits h.places (kind_of c.args.kinds.now) h.k h.bit h.invariant.held h.invariant.bit (omega arith) (omega (arith, c.if-placed.true)) (omega (arith, c.requires.range h.k)))
 
 pub loop-k-preserved : goal.loop-k-preserved
 loop-k-preserved c =
@@ -22,12 +22,12 @@ loop-k-preserved c =
       within = omega arith;
       bit = bit_more h.places kind h.k h.bit i.held i.bit;
       held =
-          elim c.if-kind-gt0.branch [
-            | then-kind-gt0 w ↦
+          elim c.if-placed.branch [
+            | then-placed w ↦
                 subst (λ (l : List ℕ). PlacesTo l kind (h.k + 1)) (sym w.places-is)
-                (case_more h.places kind h.k h.bit i.held i.bit w.if-kind-gt0.true (omega (arith, c.requires.range h.k)))
-            | else-kind-gt0 w ↦
+                (case_more h.places kind h.k h.bit i.held i.bit (omega (arith, w.if-placed.true)) (omega (arith, c.requires.range h.k)))
+            | else-placed w ↦
                 subst (λ (l : List ℕ). PlacesTo l kind (h.k + 1)) (sym w.places-is)
-                (empty_more h.places kind h.k h.bit i.held i.bit (omega (arith, w.if-kind-gt0.false)))
+                (empty_more h.places kind h.k h.bit i.held i.bit (omega (arith, w.if-placed.false)))
           ];
     }
