@@ -1,6 +1,6 @@
 #!/usr/bin/env python3
-"""Respells the definitions and lemmas of this repository, and the edits of must-fail/, after /opt/rattle/port/port.py: functions, lemmas, fields and
-constructors in snake case, types and facts in upper camel case. Run once, at the top: python3 tools/respell.py
+"""Respells the definitions and lemmas of this repository, and the edits of must-fail/, after the toolchain's port.py: functions, lemmas, fields
+and constructors in snake case, types and facts in upper camel case. Run once, at the top: python3 tools/respell.py
 
 Names of the toolchain's library, of functions in src/ and of what Rattle makes from those (proofs/F/) keep their spelling.
 """
