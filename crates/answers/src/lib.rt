@@ -1,77 +1,100 @@
 #![tactic(auto)]
 
 // Answers as bytes.
-ghost use Rattle.std.specs.Prelude.{◌≡◌, ◌+◌, ◌<◌, ◌≤◌, length};
-ghost use Rattle.std.proofs.lemmas.List.Edits.{sets};
+ghost use Rattle.std.specs.Prelude.{◌≡◌, ◌<◌, ◌≤◌, length};
 ghost use Rattle.wire.specs.Bytes.{over};
-ghost use Rattle.answers.specs.Answers.{answer_room, last_of, named_bytes, extreme_bytes, verdict_byte, utilised_bytes, answer_bytes};
+ghost use Rattle.answers.specs.Answers.{answer_room, last_of, named_bytes, extreme_bytes, utilised_bytes, answer_bytes};
 ghost use Rattle.answers.specs.Rows.{RowsFit};
 
-use envelope::{Extreme, Utilised};
+use envelope::{Extreme, Extremes, Utilised};
 use sheet::Answer;
 
 // The room that a field asks for: the longest answer has 37 bytes.
 pub const ANSWER_ROOM: usize = 37;
 
-// Writes the row, the acting and the low set of a combination.
-fn put_named(out: &mut [u8], at: usize, row: usize, acting: u32, low: u32) -> usize
-    requires { (row < 256) × (at + 9 ≤ length out.old) }
-    ensures { (result ≡ at + 9) × (out.new ≡ sets out.old at (named_bytes row acting low)) }
+// The refusal of an output that is too short: it writes nothing.
+const SHORT_OUTPUT: u8 = 14;
+
+// The row, the acting and the low set of a combination.
+#[tactic(auto, using(wire::proofs::Numbers::bytes4_of))]
+fn named_bytes(row: usize, acting: u32, low: u32) -> [u8; 9]
+    requires { row < 256 }
+    ensures { result ≡ named_bytes row acting low }
 {
-    let b = [row as u8];
-    let to = wire::put_at(out, at, &b);
-    let to = wire::put4(out, to, acting);
-    wire::put4(out, to, low)
+    let mut bytes = [row as u8; 9];
+    bytes[1..5].copy_from_slice(&acting.to_be_bytes());
+    bytes[5..].copy_from_slice(&low.to_be_bytes());
+    bytes
 }
 
-fn put_extreme(out: &mut [u8], at: usize, x: Extreme) -> usize
-    requires { (x.row < 256) × (at + 17 ≤ length out.old) }
-    ensures { (result ≡ at + 17) × (out.new ≡ sets out.old at (extreme_bytes x)) }
+fn extreme_bytes(x: Extreme) -> [u8; 17]
+    requires { x.row < 256 }
+    ensures { result ≡ extreme_bytes x }
 {
-    let to = wire::put8(out, at, wire::bits_long(x.value));
-    put_named(out, to, x.row, x.acting, x.low)
+    let mut bytes = [0; 17];
+    bytes[..8].copy_from_slice(&x.value.to_be_bytes());
+    bytes[8..].copy_from_slice(&named_bytes(x.row, x.acting, x.low));
+    bytes
 }
 
-fn put_utilised(out: &mut [u8], at: usize, x: Utilised) -> usize
-    requires { (x.row < 256) × (at + 26 ≤ length out.old) }
-    ensures { (result ≡ at + 26) × (out.new ≡ sets out.old at (utilised_bytes x)) }
+fn utilised_bytes(x: Utilised) -> [u8; 26]
+    requires { x.row < 256 }
+    ensures { result ≡ utilised_bytes x }
 {
-    let b = [verdict_byte(x.pass)];
-    let to = wire::put8(out, at, x.numerator);
-    let to = wire::put8(out, to, x.denominator);
-    let to = wire::put_at(out, to, &b);
-    put_named(out, to, x.row, x.acting, x.low)
+    let mut bytes = [u8::from(x.pass); 26];
+    bytes[..8].copy_from_slice(&x.numerator.to_be_bytes());
+    bytes[8..16].copy_from_slice(&x.denominator.to_be_bytes());
+    bytes[17..].copy_from_slice(&named_bytes(x.row, x.acting, x.low));
+    bytes
 }
 
-fn verdict_byte(pass: bool) -> u8
-    ensures { result ≡ verdict_byte pass }
+// The two extremes, with the tag and the length of their answer.
+#[tactic(auto, unfolding(crate::specs::Rows::RowsFit))]
+fn extremes_answer(x: Extremes) -> [u8; 37]
+    requires { RowsFit (Answer.Extremes x) }
+    ensures { result ≡ answer_bytes (Answer.Extremes x) }
 {
-    if pass { 1 } else { 0 }
+    let mut bytes = [0; 37];
+    bytes[..3].copy_from_slice(b"\x86\x00\x22");
+    bytes[3..20].copy_from_slice(&extreme_bytes(x.maximum));
+    bytes[20..].copy_from_slice(&extreme_bytes(x.minimum));
+    bytes
+}
+
+#[tactic(auto, unfolding(crate::specs::Rows::RowsFit))]
+fn utilisation_answer(x: Utilised) -> [u8; 29]
+    requires { RowsFit (Answer.Utilisation x) }
+    ensures { result ≡ answer_bytes (Answer.Utilisation x) }
+{
+    let mut bytes = [0; 29];
+    bytes[..3].copy_from_slice(b"\x87\x00\x1a");
+    bytes[3..].copy_from_slice(&utilised_bytes(x));
+    bytes
+}
+
+// Writes bytes over the front of the output, and says how many.
+#[tactic(auto, unfolding(wire::specs::Bytes::over))]
+fn put_front(out: &mut [u8], bytes: &[u8]) -> usize
+    requires { length bytes.now ≤ length out.old }
+    ensures { (result ≡ length bytes.now) × (out.new ≡ over bytes.now out.old) }
+{
+    let n = bytes.len();
+    out[..n].copy_from_slice(bytes);
+    n
 }
 
 // Writes an answer over the front of the output.
+// Stays: a clause on the rows, since a fact in `Extreme` would be owed by each definition that makes one.
 pub fn put_answer(out: &mut [u8], answer: Answer) -> usize
     requires { (answer_room ≤ length out.old) × RowsFit answer }
     ensures { (result ≡ length (answer_bytes answer)) × (out.new ≡ over (answer_bytes answer) out.old) }
 {
     match answer {
-        Answer::Accepted => wire::put_at(out, 0, b"\x80\x00\x00"),
-        Answer::Refused(n) => {
-            if n == 14 {
-                return 0;
-            }
-            let b = [0x81u8, 0, 1, n];
-            wire::put_at(out, 0, &b)
-        }
-        Answer::Extremes(x) => {
-            let to = wire::put_at(out, 0, b"\x86\x00\x22");
-            let to = put_extreme(out, to, x.maximum);
-            put_extreme(out, to, x.minimum)
-        }
-        Answer::Utilisation(x) => {
-            let to = wire::put_at(out, 0, b"\x87\x00\x1a");
-            put_utilised(out, to, x)
-        }
+        Answer::Accepted => put_front(out, b"\x80\x00\x00"),
+        Answer::Extremes(x) => put_front(out, &extremes_answer(x)),
+        Answer::Utilisation(x) => put_front(out, &utilisation_answer(x)),
+        Answer::Refused(n) if n == SHORT_OUTPUT => 0,
+        Answer::Refused(n) => put_front(out, &[0x81, 0, 1, n]),
     }
 }
 
@@ -79,10 +102,5 @@ pub fn put_answer(out: &mut [u8], answer: Answer) -> usize
 pub fn is_last(answer: Answer) -> bool
     ensures { result ≡ last_of answer }
 {
-    match answer {
-        Answer::Accepted => false,
-        Answer::Extremes(_) => false,
-        Answer::Utilisation(_) => false,
-        Answer::Refused(n) => n == 3,
-    }
+    matches!(answer, Answer::Refused(3))
 }

@@ -1,17 +1,13 @@
 #![tactic(auto)]
 
 // The calls that a program makes, each with the contract that the demands speak of: a weaker contract of what it calls is refused here.
-ghost use Rattle.std.specs.Prelude.{List, ℤ};
-ghost use Rattle.fields.specs.Readings.{whole_reading};
-ghost use Rattle.sheet.specs.Parts.{whole};
+ghost use Rattle.fields.specs.Readings.{with_sheet};
 ghost use Rattle.sheet.specs.Range.{InRange};
 ghost use Rattle.demands.specs.Readings.{made, ReadOn, SaveOn};
 
-use dead_sums::DeadSums;
-use effects::Effects;
-use fields::{ReadRest, Reading};
-use saving::Saved;
-use sheet::{Rest, Sheet};
+use fields::{Outcome, Reading};
+use refusals::Refusal;
+use sheet::Sheet;
 
 pub fn read_field(sheet: Sheet, input: &[u8], out: &mut [u8]) -> Reading
     requires { InRange sheet }
@@ -20,27 +16,21 @@ pub fn read_field(sheet: Sheet, input: &[u8], out: &mut [u8]) -> Reading
     fields::read_field(sheet, input, out)
 }
 
-pub fn read_in(
-    rest: Rest,
-    effects: &mut Effects,
-    sums: &mut DeadSums,
-    input: &[u8],
-    out: &mut [u8],
-) -> ReadRest
-    requires { InRange (whole rest effects.old sums.old) }
-    ensures { ReadOn (whole rest effects.old sums.old) (made input.now out.old (whole_reading result effects.new sums.new) out.new) }
+pub fn read_in(sheet: &mut Sheet, input: &[u8], out: &mut [u8]) -> Outcome
+    requires { InRange sheet.old }
+    ensures { ReadOn sheet.old (made input.now out.old (with_sheet result sheet.new) out.new) }
 {
-    fields::read_in(rest, effects, sums, input, out)
+    fields::read_in(sheet, input, out)
 }
 
-pub fn save(sheet: Sheet, out: &mut [u8]) -> Saved
+pub fn save(sheet: Sheet, out: &mut [u8]) -> Result<usize, Refusal>
     ensures { SaveOn sheet out.old result out.new }
 {
     saving::save(sheet, out)
 }
 
-pub fn save_in(rest: Rest, effects: &Effects, out: &mut [u8]) -> Saved
-    ensures { (sums : List ℤ) → SaveOn (whole rest effects.now sums) out.old result out.new }
+pub fn save_in(sheet: &Sheet, out: &mut [u8]) -> Result<usize, Refusal>
+    ensures { SaveOn sheet.now out.old result out.new }
 {
-    saving::save_in(rest, effects, out)
+    saving::save_in(sheet, out)
 }

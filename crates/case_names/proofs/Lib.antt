@@ -1,5 +1,4 @@
-pub mod Written
 pub mod Keeping
-pub mod Progress
 pub mod Lining
-pub mod Reporting
+pub mod Progress
+pub mod Written

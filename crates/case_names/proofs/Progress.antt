@@ -10,20 +10,20 @@ use Rattle.wire.specs.Bytes.{over}
 use Rattle.drawing.specs.Names.{places_from, end_of, whole_end, case_name}
 use Rattle.drawing.proofs.Joins.{end_within, rest_cut, ends_joined, names_joined, cut_nameless, whole_part}
 use Rattle.case_names.specs.Table.{Fits, AllKept, NamesOf}
-use Rattle.case_names.specs.Reading.{ReadAfter, Progress, Further, Turned, Collected}
-
--- a part from the first byte on
-first_bytes : (w : List ℕ) (n : ℕ) → take (n - 0) (drop 0 w) ≡ take n w
-first_bytes w n = let z : n - 0 ≡ n = omega arith in rw z
+use Rattle.transfers.specs.Filled.{ReadAfter}
+use Rattle.case_names.specs.Reading.{Progress, Further, Turned, Collected}
 
 -- the whole fields of the bytes at hand reach no further than they
-pub reach : {held count : ℕ} {before after : List ℕ} → ReadAfter held count before after → {e : ℕ} → e ≡ whole_end (take (count - 0) (drop 0 after)) →
+pub reach : {held count : ℕ} {before after : List ℕ} → ReadAfter held count before after → {e : ℕ} → e ≡ whole_end (take count after) →
     (e ≤ count) × (count ≤ length after)
 reach {held} {count} {before} {after} r e =
-    let f = e ∙ ap whole_end (first_bytes after count) in
     let h : count ≤ length after = omega (arith, r.most, r.same) in
     let l : length (take count after) ≡ count = length-take-le count after h in
     (omega (arith, end_within (take count after)), h)
+
+pub front_long : {held count : ℕ} {before after : List ℕ} → ReadAfter held count before after → {e : ℕ} → e ≡ whole_end (take count after) →
+    e ≡ length (take e after)
+front_long {after = after} r {e} f = let h = reach r f in sym (length-take-le e after (omega (arith, h.0, h.1)))
 
 -- bytes written over the front of others
 over_long : (v o : List ℕ) → length v ≤ length o → length (over v o) ≡ length o
@@ -34,8 +34,8 @@ over_front : (v o : List ℕ) (n : ℕ) → length v ≡ n → take n (over v o)
 unfolding over
 over_front v o n e = take_at v (drop (length v) o) n e
 
-module _ (held count : ℕ) (input input₁ names lengths names' lengths' : List ℕ) (r : ReadAfter held count input input₁)
-    (k : AllKept (take (whole_end (take count input₁)) input₁) names lengths names' lengths') where
+module _ (held count : ℕ) (input input₁ : List ℕ) (names names' : List (List ℕ)) (r : ReadAfter held count input input₁)
+    (k : AllKept (take (whole_end (take count input₁)) input₁) names names') where
   abbrev w : List ℕ
   w = take count input₁
 
@@ -51,7 +51,7 @@ module _ (held count : ℕ) (input input₁ names lengths names' lengths' : List
   same_part : take e input₁ ≡ take e w
   same_part = sym (take-take e count input₁ ended)
 
-  all_read : (all : List ℕ) (p : Progress all (take held input) names lengths) → all ++ drop held w ≡ (p.done ++ take e w) ++ drop e w
+  all_read : (all : List ℕ) (p : Progress all (take held input) names) → all ++ drop held w ≡ (p.done ++ take e w) ++ drop e w
   all_read all p =
       let h : take held input ≡ take held w = sym r.kept ∙ sym (take-take held count input₁ r.least) in
       ap (λ (x : List ℕ). x ++ drop held w) (p.split ∙ ap (λ (x : List ℕ). p.done ++ x) h)
@@ -59,7 +59,7 @@ module _ (held count : ℕ) (input input₁ names lengths names' lengths' : List
       ∙ (ap (λ (x : List ℕ). p.done ++ x) (take-append-drop held w ∙ sym (take-append-drop e w))
       ∙ sym (append_assoc p.done (take e w) (drop e w))))
 
-  further : (all : List ℕ) → Progress all (take held input) names lengths → Further all (drop e w) names' lengths'
+  further : (all : List ℕ) → Progress all (take held input) names → Further all (drop e w) names'
   further all p = record {
     more = drop held w;
     progress = record {
@@ -74,7 +74,7 @@ module _ (held count : ℕ) (input input₁ names lengths names' lengths' : List
     };
   }
 
-  turned_so : {input₂ : List ℕ} → input₂ ≡ over (slice e count input₁) input₁ → Turned held input names lengths (count - e) input₂ names' lengths'
+  turned_so : {input₂ : List ℕ} → input₂ ≡ over (slice e count input₁) input₁ → Turned held input names (count - e) input₂ names'
   turned_so {input₂} o =
       let n : count ≤ length input₁ = omega (arith, r.most, r.same) in
       let l : length (slice e count input₁) ≡ count - e = length-slice e count input₁ n in
@@ -87,15 +87,14 @@ module _ (held count : ℕ) (input input₁ names lengths names' lengths' : List
         goes_on = λ all p. rw f (further all p);
       }
 
-pub turned : (held count : ℕ) (input input₁ names lengths names' lengths' : List ℕ) {e : ℕ} {input₂ : List ℕ} → ReadAfter held count input input₁ →
-    e ≡ whole_end (take (count - 0) (drop 0 input₁)) → AllKept (take (e - 0) (drop 0 input₁)) names lengths names' lengths' →
-    input₂ ≡ over (slice e count input₁) input₁ → Turned held input names lengths (count - e) input₂ names' lengths'
-turned held count input input₁ names lengths names' lengths' {e} r f k o =
-    let g : e ≡ whole_end (take count input₁) = f ∙ ap whole_end (first_bytes input₁ count) in
-    rw g (turned_so held count input input₁ names lengths names' lengths' r (rw g at (rw (first_bytes input₁ e) at k)) (rw g at o))
+pub turned : (held count : ℕ) (input input₁ : List ℕ) (names names' : List (List ℕ)) {e : ℕ} {input₂ : List ℕ} → ReadAfter held count input input₁ →
+    e ≡ whole_end (take count input₁) → AllKept (take e input₁) names names' →
+    input₂ ≡ over (slice e count input₁) input₁ → Turned held input names (count - e) input₂ names'
+turned held count input input₁ names names' {e} r f k o =
+    rw f (turned_so held count input input₁ names names' r (rw f at k) (rw f at o))
 
 -- at the end of the file the names are those of all that was read
-names_read : {all held names lengths : List ℕ} → Progress all held names lengths → NamesOf all names lengths
+names_read : {all held : List ℕ} {names : List (List ℕ)} → Progress all held names → NamesOf all names
 names_read {all} {held} p = record {
   fits = p.names_of.fits;
   each = λ j b.
@@ -104,26 +103,26 @@ names_read {all} {held} p = record {
 }
 
 -- what holds between the reads
-pub record Collecting (held : ℕ) (input names lengths : List ℕ) : Type 0 where
+pub record Collecting (held : ℕ) (input : List ℕ) (names : List (List ℕ)) : Type 0 where
   pub within : held ≤ length input
-  pub fits : Fits names lengths
+  pub fits : Fits names
   pub all : List ℕ
-  pub progress : Progress all (take held input) names lengths
+  pub progress : Progress all (take held input) names
 
-pub collecting_none : (input names lengths : List ℕ) → NamesOf [] names lengths → Collecting 0 input names lengths
+pub collecting_none : (input : List ℕ) (names : List (List ℕ)) → NamesOf [] names → Collecting 0 input names
 unfolding whole_end places_from end_of
-collecting_none input names lengths n = record {
+collecting_none input names n = record {
   within = omega arith;
   fits = n.fits;
   all = [];
   progress = record { done = []; split = refl; whole = refl; names_of = n; cut = refl };
 }
 
-pub collecting_next : {held : ℕ} {input names lengths : List ℕ} → Collecting held input names lengths → {held' : ℕ} {input' names' lengths' : List ℕ} →
-    Turned held input names lengths held' input' names' lengths' → Collecting held' input' names' lengths'
+pub collecting_next : {held : ℕ} {input : List ℕ} {names : List (List ℕ)} → Collecting held input names → {held' : ℕ} {input' : List ℕ} {names' : List (List ℕ)} →
+    Turned held input names held' input' names' → Collecting held' input' names'
 collecting_next h t =
     let f = t.goes_on h.all h.progress in
     record { within = omega (arith, t.within, t.same); fits = t.fits; all = h.all ++ f.more; progress = f.progress }
 
-pub collected : {held : ℕ} {input names lengths : List ℕ} → Collecting held input names lengths → Collected names lengths
+pub collected : {held : ℕ} {input : List ℕ} {names : List (List ℕ)} → Collecting held input names → Collected names
 collected h = record { file = h.all; names_of = names_read h.progress }

@@ -9,98 +9,83 @@ mod reading;
 mod table;
 mod text;
 
-ghost use Rattle.std.specs.Prelude.{◌≤◌, length};
-ghost use Rattle.case_names.specs.Text.{lines_most};
 ghost use Rattle.case_names.specs.Report.{Reported};
 
-use standard::CASES;
+use lines::Lines;
 use std::env::FillError;
 use std::fs;
 use std::io::{Error, Read};
 use std::rt::{Env, Files};
 use std::time::Clock;
-use table::LONGEST_NAME;
 use transfers::tell;
-
-// The most bytes of the lines.
-const LINES: usize = 3200;
 
 // The system's errors for an argument that is too long, and for one that is no text.
 const ENAMETOOLONG: i32 = 36;
 
 const EILSEQ: i32 = 84;
 
-// The file to read: standard input where there is no argument, and none where it could not be opened, of which standard error is told.
+// The file to read.
 #[derive(Drop)]
 enum Source<F> {
     Input,
     File(F),
-    Failed,
 }
+
+// A file that could not be opened, of which standard error is told.
+#[derive(Clone, Copy, PartialEq, Eq, Debug)]
+struct NotOpened;
 
 // The file of this name.
-fn opened_at<R: Files + Eprint>(rt: &R, path: &[u8]) -> Source<R::File> {
+fn opened_at<R: Files + Eprint>(rt: &R, path: &[u8]) -> Result<R::File, NotOpened> {
     let Ok(name) = str::from_utf8(path) else {
         tell(rt, "case_names: argument", Error::from_raw_os_error(EILSEQ));
-        return Source::Failed;
+        return Err(NotOpened);
     };
-    match fs::open(rt, name) {
-        Ok(file) => Source::File(file),
-        Err(error) => {
-            tell(rt, name, error);
-            Source::Failed
-        }
-    }
+    fs::open(rt, name).map_err(|error| {
+        tell(rt, name, error);
+        NotOpened
+    })
 }
 
-fn opened<R: Env + Files + Eprint>(rt: &R) -> Source<R::File> {
+// The file that the first argument names, standard input where there is none.
+fn opened<R: Env + Files + Eprint>(rt: &R) -> Result<Source<R::File>, NotOpened> {
     let mut path = io::buffer();
     match rt.arg(1, &mut path) {
-        Ok(n) => opened_at(rt, &path[..n]),
-        Err(FillError::NotPresent) => Source::Input,
+        Ok(n) => Ok(Source::File(opened_at(rt, &path[..n])?)),
+        Err(FillError::NotPresent) => Ok(Source::Input),
         Err(FillError::TooLong) => {
             tell(
                 rt,
                 "case_names: argument",
                 Error::from_raw_os_error(ENAMETOOLONG),
             );
-            Source::Failed
+            Err(NotOpened)
         }
     }
 }
 
-// The lines for the names in the file, or none where a read failed.
-fn report(
-    rt: &(impl Eprint + Clock),
-    file: &mut impl Read,
-    input: &mut [u8],
-    out: &mut [u8],
-) -> usize
-    requires { lines_most ≤ length out.old }
-    ensures { Reported out.old result out.new }
+// The lines for the names in the file, none where a read failed. The input buffer holds the largest field, 60,003 bytes.
+fn report(rt: &(impl Eprint + Clock), file: &mut impl Read) -> Lines
+    ensures { Reported result }
 {
-    let mut names = [0u8; CASES * LONGEST_NAME];
-    let mut lengths = [0usize; CASES];
-    if !reading::collect(rt, file, input, &mut names, &mut lengths) {
-        return 0;
+    let mut input = io::large_buffer();
+    match reading::collect(rt, file, &mut input) {
+        Some(names) => lines::lines_for(&names),
+        None => Lines::new(),
     }
-    lines::put_names(&names, &lengths, out)
 }
 
-// The input buffer holds the largest field, 60,003 bytes.
 fn write_names(rt: &(impl Print + Eprint + Clock), file: &mut impl Read) {
-    let mut input = io::large_buffer();
-    let mut out = [0u8; LINES];
-    let n = report(rt, file, &mut input, &mut out);
-    if let Err(error) = rt.write_all(&out[0..n]) {
+    let lines = report(rt, file);
+    if let Err(error) = rt.write_all(lines.as_bytes()) {
         tell(rt, "case_names: write", error);
     }
 }
 
 fn main(rt: HostRuntime) {
     match opened(&rt) {
-        Source::Input => write_names(&rt, &mut rt.stdin()),
-        Source::File(mut file) => write_names(&rt, &mut file),
-        Source::Failed => {}
+        Ok(Source::Input) => write_names(&rt, &mut rt.stdin()),
+        Ok(Source::File(mut file)) => write_names(&rt, &mut file),
+        Err(NotOpened) => {}
     }
 }

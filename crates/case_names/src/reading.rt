@@ -1,122 +1,61 @@
 // Reads the file, and keeps the names in the whole fields of what was read.
-ghost use Rattle.std.specs.Prelude.{[], ◌≤◌, length};
-ghost use Rattle.case_names.specs.Table.{Fits, NamesOf};
-ghost use Rattle.case_names.specs.Reading.{ReadAfter, Turned, Collected};
+ghost use Rattle.std.specs.Prelude.{◌≤◌, length, IfSome};
+ghost use Rattle.case_names.specs.Table.{Fits};
+ghost use Rattle.case_names.specs.Reading.{Turned, Collected};
 
 use crate::table;
-use crate::table::{Lengths, Names};
+use crate::table::Names;
+use pauses::Pause;
 use std::io;
-use std::io::ErrorKind;
 use std::time::Clock;
+use transfers::{Read, Source};
 
-// In nanoseconds, how long to wait where a read cannot go on for now.
-const PAUSE: u32 = 1_000_000;
-
-// Whether a read that failed is to be made again: an interrupted one at once, one that cannot go on for now after a pause. Of any other
-// standard error is told.
-fn is_again(rt: &(impl Eprint + Clock), error: io::Error) -> bool {
-    match error.kind() {
-        ErrorKind::Interrupted => true,
-        ErrorKind::WouldBlock => {
-            pauses::wait(rt, PAUSE);
-            true
-        }
-        _ => {
-            transfers::tell(rt, "case_names: read", error);
-            false
-        }
-    }
-}
-
-// How many bytes are at hand, whether another read is to follow, and whether the last one failed.
-#[derive(Drop)]
-struct Read {
-    count: usize,
-    more: bool,
-    failed: bool,
-}
-
-// Reads more bytes after those held. Where there is no room for any, as after a length above 60,000, it is as at the end of the file.
-fn read_more(
-    rt: &(impl Eprint + Clock),
-    file: &mut impl io::Read,
-    input: &mut [u8],
-    held: usize,
-) -> Read
-    requires { held ≤ length input.old }
-    ensures { ReadAfter held result.count input.old input.new }
-{
-    match file.read(&mut input[held..]) {
-        Ok(n) => Read {
-            count: held + n,
-            more: n != 0,
-            failed: false,
-        },
-        Err(error) => {
-            let again = is_again(rt, error);
-            Read {
-                count: held,
-                more: again,
-                failed: !again,
-            }
-        }
-    }
-}
-
-// How many bytes are held, whether another turn is to follow, and whether the read failed.
-#[derive(Drop)]
-struct State {
-    held: usize,
-    more: bool,
-    failed: bool,
-}
-
-// One read. The names in its whole fields are kept, and the bytes after them are moved to the front.
+// One read after the bytes held, `last.count` of them. The names in the whole fields at hand are kept, and the bytes after those are moved
+// to the front. Where there is no room for more bytes, as after a length above 60,000, it is as at the end of the file.
 fn turn(
     rt: &(impl Eprint + Clock),
     file: &mut impl io::Read,
-    held: usize,
+    last: Read,
     input: &mut [u8],
     names: &mut Names,
-    lengths: &mut Lengths,
-) -> State
-    requires { (held ≤ length input.old) × Fits names.old lengths.old }
-    ensures { Turned held input.old names.old lengths.old result.held input.new names.new lengths.new }
+) -> Read
+    requires held { last.count ≤ length input.old }
+    requires names { Fits names.old }
+    ensures { Turned last.count input.old names.old result.count input.new names.new }
 {
-    let m = read_more(rt, file, input, held);
-    let count = m.count;
-    let end = drawing::whole_end(&input[0..count]);
-    table::keep_names(&input[0..end], names, lengths);
-    transfers::shift(input, end, count);
-    State {
-        held: count - end,
-        more: m.more,
-        failed: m.failed,
+    let read = transfers::read_more(rt, "case_names: read", file, input, last.count, last.pause);
+    let end = drawing::whole_end(&input[..read.count]);
+    table::keep_names(&input[..end], names);
+    transfers::shift(input, end, read.count);
+    Read {
+        count: read.count - end,
+        source: read.source,
+        pause: read.pause,
     }
 }
 
-// Reads to the end of the file, and says whether no read failed. A proved loop ends, and no fact says that the file does: the turns are
-// counted from a number that no run uses up.
+// The names in the file, read to its end, and none where a read failed. A proved loop ends, and no fact says that the file does: the turns
+// are counted to a number that no run reaches.
 pub fn collect(
     rt: &(impl Eprint + Clock),
     file: &mut impl io::Read,
     input: &mut [u8],
-    names: &mut Names,
-    lengths: &mut Lengths,
-) -> bool
-    requires { NamesOf [] names.old lengths.old }
-    ensures { Collected names.new lengths.new }
+) -> Option<Names>
+    ensures { IfSome result Collected }
 {
-    let mut t = State {
-        held: 0,
-        more: true,
-        failed: false,
+    let mut names = table::no_names();
+    let mut read = Read {
+        count: 0,
+        source: Source::Open,
+        pause: Pause::first(),
     };
-    let mut left = u64::MAX;
-    while left > 0 {
-        let held = t.held;
-        t = turn(rt, file, held, input, names, lengths);
-        left = transfers::remaining(t.more, left);
+    for _ in 0..u64::MAX {
+        read = turn(rt, file, read, input, &mut names);
+        match read.source {
+            Source::Open => {}
+            Source::Ended => break,
+            Source::Failed => return None,
+        }
     }
-    !t.failed
+    Some(names)
 }

@@ -1,37 +1,33 @@
-// The names kept of the cases: a place of 24 bytes for each, and how many of them its name has.
-ghost use Rattle.std.specs.Prelude.{◌≡◌, ◌<◌, ◌≤◌, length};
-ghost use Rattle.case_names.specs.Table.{cases, longest_name, Fits, OneKept, AllKept};
+// The names kept of the cases.
+ghost use Rattle.std.specs.Prelude.{[]};
+ghost use Rattle.case_names.specs.Table.{Fits, AllKept, NamesOf};
 
+use crate::text::Text;
 use standard::CASES;
+use std::array;
 
 pub const LONGEST_NAME: usize = 24;
 
-pub type Names = [u8; CASES * LONGEST_NAME];
+pub type Name = Text<LONGEST_NAME>;
 
-pub type Lengths = [usize; CASES];
+pub type Names = [Name; CASES];
 
-// Keeps the name of a case, where there is one.
-fn keep_name(name: &[u8], case: usize, names: &mut Names, lengths: &mut Lengths)
-    requires { (case < cases) × (length name.now ≤ longest_name) × Fits names.old lengths.old }
-    ensures { OneKept case name.now names.old lengths.old names.new lengths.new }
+pub fn no_names() -> Names
+    ensures { NamesOf [] result }
 {
-    let n = name.len();
-    if n == 0 {
-        return;
-    }
-    wire::put_at(names, case * LONGEST_NAME, name);
-    lengths[case] = n;
+    array::from_fn(|_| Name::new())
 }
 
 // Keeps the names in a part of the file.
-pub fn keep_names(part: &[u8], names: &mut Names, lengths: &mut Lengths)
-    requires { Fits names.old lengths.old }
-    ensures { AllKept part.now names.old lengths.old names.new lengths.new }
+pub fn keep_names(part: &[u8], names: &mut Names)
+    requires { Fits names.old }
+    ensures { AllKept part.now names.old names.new }
 {
-    let mut case = 0;
-    while case < CASES {
-        let name = drawing::case_name(part, case as u8);
-        keep_name(name, case, names, lengths);
-        case += 1;
+    for (case, name) in names.iter_mut().enumerate() {
+        let found = drawing::case_name(part, case as u8);
+        if !found.is_empty() {
+            name.clear();
+            name.push(found);
+        }
     }
 }

@@ -2,9 +2,10 @@
 -- where its kind is another while it has no effects. Over any test that says which cases are counted.
 -- Assumes nothing.
 use Prim.Native.Nat.{ℕ, zero, suc, ◌+◌, ◌*◌, ◌/◌, ◌%◌, ◌≤◌, ◌<◌}
+use native.Mathlib.Numerals.{add-one}
 use native.Mathlib.Omega.{arith}
 use mathlib.Core.Bool.{Bool, true, false, cond}
-use mathlib.Core.List.{List, [], ◌∷◌}
+use mathlib.Core.List.{List, [], ◌∷◌, ◌++◌}
 use mathlib.Core.Logic.{◌⊎◌, inl, inr, ⊎_elim}
 use mathlib.Core.Path.{◌≡◌, refl, sym, ap, ◌∙◌}
 use borrow.Author.Tests.{ne_eqb}
@@ -17,10 +18,10 @@ use Rattle.integers.proofs.Linear.{where_agrees, where_none, where_most, where_c
 use Rattle.standard.specs.Combination.{case_count}
 use Rattle.envelope.specs.Range.{station_count, component_count, effect_limit, total_most}
 use Rattle.wire.proofs.Cases.{lt_or_ge, eq_or_ne}
-use Rattle.wire.proofs.Stores.{sets_at_lem, replicate_all}
+use Rattle.wire.proofs.Stores.{sets_at_lem, sets_above, sets_append, replicate_all}
 use Rattle.effects.specs.Effects.{effect_count, effect_in, place, zeros}
 use Rattle.effects.proofs.Stored.{triple_other, effects_at_lem, effects_other}
-use Rattle.dead_sums.specs.DeadSums.{station_sums, dead_sum_count, sum_place, sum_in, tabulated, sums_by, of_dead_kind, sums_of, moved_by, sums_moved}
+use Rattle.dead_sums.specs.DeadSums.{station_sums, dead_sum_count, sum_place, sum_in, tabulated, sums_by, of_dead_kind, sums_of, moved_by, sums_moved, EffectsWithin}
 
 -- ---- a list of what a function gives
 tabulated_long : (n : ℕ) (f : ℕ → ℤ) → length (tabulated n f) ≡ n
@@ -33,6 +34,21 @@ unfolding tabulated
 tabulated_at zero f i d l = absurd (omega arith)
 tabulated_at (suc n) f zero d l = refl
 tabulated_at (suc n) f (suc i) d l = tabulated_at n (λ j. f (suc j)) i d (omega arith)
+
+tabulated_more : (n : ℕ) (f : ℕ → ℤ) → tabulated n f ++ f n ∷ [] ≡ tabulated (suc n) f
+unfolding tabulated
+tabulated_more zero f = refl
+tabulated_more (suc n) f = ap (λ (l : List ℤ). f 0 ∷ l) (tabulated_more n (λ i. f (suc i)))
+
+-- what a function gives is stored, one number after the other: those above are as they were, and the next one goes on
+module _ (l : List ℤ) (at n : ℕ) (f : ℕ → ℤ) where
+  pub still_there : get_or (sets l at (tabulated n f)) (at + n) (pos 0) ≡ get_or l (at + n) (pos 0)
+  still_there = sets_above (pos 0) (tabulated n f) l at (at + n) (rw tabulated_long (omega arith))
+
+  pub stored_more : set (sets l at (tabulated n f)) (at + n) (f n) ≡ sets l at (tabulated (n + 1) f)
+  stored_more =
+      let next = sets_append (tabulated n f) (f n ∷ []) l at in
+      (rw tabulated_long at next) ∙ ap (sets l at) (tabulated_more n f) ∙ ap (λ k. sets l at (tabulated k f)) (sym (add-one n))
 
 -- ---- the sums are those of the cases
 module _ (member : ℕ → ℕ → Bool) (effects : List ℤ) where
@@ -68,7 +84,7 @@ module _ (member : ℕ → ℕ → Bool) (effects : List ℤ) where
       let r : i % component_count < component_count = omega arith in
       ap (λ (n : ℕ). get_or l n (pos 0)) (sym e) ∙ at _ _ _ w s r ∙ sym (sum_is _ _ _ w s r) ∙ ap (λ (n : ℕ). get_or (sums_by member effects) n (pos 0)) e)
 
-  pub sums_within : ((i : ℕ) → nat_abs (get_or effects i (pos 0)) ≤ effect_limit) → (i : ℕ) → nat_abs (get_or (sums_by member effects) i (pos 0)) ≤ total_most
+  pub sums_within : EffectsWithin effects → (i : ℕ) → nat_abs (get_or (sums_by member effects) i (pos 0)) ≤ total_most
   sums_within small i = ⊎_elim inside past (lt_or_ge i dead_sum_count)
     where
       inside : i < dead_sum_count → nat_abs (get_or (sums_by member effects) i (pos 0)) ≤ total_most
@@ -92,15 +108,16 @@ sums_agree_lem member member' effects effects' same =
     ∙ where_agrees case_count (member which) (member' which) (λ k. effect_in effects k t j) (λ k. effect_in effects' k t j) (λ k l. same which k t j a l b c))
 
 -- ---- a case's three effects at a station are others
-module _ (member : ℕ → ℕ → Bool) (effects : List ℤ) (k t : ℕ) (n y z : ℤ) (long : length effects ≡ effect_count) (a : k < case_count) (b : t < station_count) where
+module _ (member : ℕ → ℕ → Bool) (effects : List ℤ) (k t : ℕ) (values : List ℤ) (three : length values ≡ component_count) (long : length effects ≡ effect_count)
+    (a : k < case_count) (b : t < station_count) where
   abbrev after : List ℤ
-  after = sets effects (place k t) (n ∷ y ∷ z ∷ [])
+  after = sets effects (place k t) values
 
   -- it isn't counted: the sums stay
   pub uncounted : ((which : ℕ) → which < 2 → member which k ≡ false) → sums_by member effects ≡ sums_by member after
   uncounted none = sums_agree_lem member member effects after (λ which q u j c l m d. ⊎_elim
       (λ (e : q ≡ k). let f : member which q ≡ false = ap (member which) e ∙ none which c in rw f)
-      (λ (ne : q ≡ k → ⊥). ap (λ (x : ℤ). cond (member which q) x (pos 0)) (sym (effects_other effects k t n y z q u j a l (λ e. ne e.0) d)))
+      (λ (ne : q ≡ k → ⊥). ap (λ (x : ℤ). cond (member which q) x (pos 0)) (sym (effects_other effects k t values three q u j a l (λ e. ne e.0) d)))
       (eq_or_ne q k))
 
   -- it is counted for the one and not for the other: its three sums there move by the difference
@@ -109,44 +126,37 @@ module _ (member : ℕ → ℕ → Bool) (effects : List ℤ) (k t : ℕ) (n y z
     sums = sums_by member effects
 
     abbrev moved : List ℤ
-    moved = sums_moved sums (sum_place which t) effects (place k t) n y z
+    moved = sums_moved sums (sum_place which t) effects (place k t) values
 
     -- the three that are stored
-    abbrev stored : List ℤ
-    stored =
-        moved_by (get_or sums (sum_place which t) (pos 0)) (get_or effects (place k t) (pos 0)) n
-        ∷ moved_by (get_or sums (sum_place which t + 1) (pos 0)) (get_or effects (place k t + 1) (pos 0)) y
-        ∷ moved_by (get_or sums (sum_place which t + 2) (pos 0)) (get_or effects (place k t + 2) (pos 0)) z
-        ∷ []
+    abbrev move : ℕ → ℤ
+    move j = moved_by (sum_in sums which t j) (effect_in effects k t j) (get_or values j (pos 0))
 
-    three : (j : ℕ) → j < component_count → get_or stored j (pos 0) ≡ moved_by (sum_in sums which t j) (effect_in effects k t j) (get_or (n ∷ y ∷ z ∷ []) j (pos 0))
-    three zero l =
-        let p : sum_place which t ≡ sum_place which t + 0 = omega arith in
-        let q : place k t ≡ place k t + 0 = omega arith in
-        λ i. moved_by (get_or sums (p i) (pos 0)) (get_or effects (q i) (pos 0)) n
-    three (suc zero) l = refl
-    three (suc (suc zero)) l = refl
-    three (suc (suc (suc j))) l = absurd (omega arith)
+    abbrev stored : List ℤ
+    stored = tabulated component_count move
+
+    stored_long : length stored ≡ component_count
+    stored_long = tabulated_long component_count move
 
     at_own : (j : ℕ) → j < component_count → sum_in moved which t j ≡ sum_for member after which t j
     at_own j d =
-        let w : sum_place which t + 3 ≤ length sums = rw (sums_long member effects) (omega arith) in
-        sets_at_lem (pos 0) stored sums (sum_place which t) j d w
-        ∙ three j d
-        ∙ (λ i. moved_by (sum_is member effects which t j c b d i) (effect_in effects k t j) (sym (effects_at_lem effects k t n y z j long a b d) i))
+        let w : sum_place which t + length stored ≤ length sums = rw (stored_long, sums_long member effects) (omega arith) in
+        sets_at_lem (pos 0) stored sums (sum_place which t) j (rw stored_long d) w
+        ∙ tabulated_at component_count move j (pos 0) d
+        ∙ (λ i. moved_by (sum_is member effects which t j c b d i) (effect_in effects k t j) (sym (effects_at_lem effects k t values three j long a b d) i))
         ∙ sym (where_changed case_count (member which) k (λ q. effect_in after q t j) (λ q. effect_in effects q t j) a counted
-        (λ q l ne. effects_other effects k t n y z q t j a l (λ e. ne e.0) d))
+        (λ q l ne. effects_other effects k t values three q t j a l (λ e. ne e.0) d))
 
     -- and elsewhere
     at_other : (w u j : ℕ) → w < 2 → u < station_count → j < component_count → ((w ≡ which) × (u ≡ t) → ⊥) → sum_in moved w u j ≡ sum_for member after w u j
     at_other w u j p q d ne =
-        triple_other (pos 0) sums _ _ _ (sum_place which t) (sum_place w u) (t * 2 + which) (u * 2 + w) j (omega arith) (omega arith) (λ e. ne (omega arith, omega arith)) d
+        triple_other (pos 0) sums stored stored_long (sum_place which t) (sum_place w u) (t * 2 + which) (u * 2 + w) j (omega arith) (omega arith) (λ e. ne (omega arith, omega arith)) d
         ∙ sum_is member effects w u j p q d
         ∙ where_agrees case_count (member w) (member w) (λ x. effect_in effects x u j) (λ x. effect_in after x u j) (λ x l. ⊎_elim
         (λ (e : (x ≡ k) × (u ≡ t)).
         let f : member w x ≡ false = ap (member w) e.0 ∙ other w p (λ r. ne (r, e.1)) in
         rw f)
-        (λ (n' : (x ≡ k) × (u ≡ t) → ⊥). ap (λ (v : ℤ). cond (member w x) v (pos 0)) (sym (effects_other effects k t n y z x u j a l n' d)))
+        (λ (n' : (x ≡ k) × (u ≡ t) → ⊥). ap (λ (v : ℤ). cond (member w x) v (pos 0)) (sym (effects_other effects k t values three x u j a l n' d)))
         (both_or_not x u))
       where
         both_or_not : (x v : ℕ) → ((x ≡ k) × (v ≡ t)) ⊎ ((x ≡ k) × (v ≡ t) → ⊥)

@@ -39,29 +39,27 @@ of_dead_kind kinds which case = eqb (get_or kinds case 0) (suc which)
 abbrev pub sums_of : List ℕ → List ℤ → List ℤ
 sums_of kinds effects = sums_by (of_dead_kind kinds) effects
 
+-- effects within their limit
+abbrev pub EffectsWithin : List ℤ → Type 0
+EffectsWithin effects = (i : ℕ) → nat_abs (get_or effects i (pos 0)) ≤ effect_limit
+
 -- the sums are those, and the effects are in range
 pub record SumsHeld (kinds : List ℕ) (effects sums : List ℤ) : Type 0 where
   pub effects_long : length effects ≡ effect_count
-  pub effects_range : (i : ℕ) → nat_abs (get_or effects i (pos 0)) ≤ effect_limit
+  pub effects_range : EffectsWithin effects
   pub sums_true : sums ≡ sums_of kinds effects
 
 -- a sum with an effect replaced
 abbrev pub moved_by : ℤ → ℤ → ℤ → ℤ
 moved_by sum old new = sum +ℤ (new +ℤ neg_ℤ old)
 
--- three sums, from a position on, with three effects from a position on replaced
-abbrev pub sums_moved : List ℤ → ℕ → List ℤ → ℕ → ℤ → ℤ → ℤ → List ℤ
-sums_moved sums at effects from n y z =
-    sets sums at
-    (moved_by (get_or sums at (pos 0)) (get_or effects from (pos 0)) n
-    ∷ moved_by (get_or sums (at + 1) (pos 0)) (get_or effects (from + 1) (pos 0)) y
-    ∷ moved_by (get_or sums (at + 2) (pos 0)) (get_or effects (from + 2) (pos 0)) z
-    ∷ [])
+-- the sums of a station, from a position on, with three effects, from a position on, replaced
+abbrev pub sums_moved : List ℤ → ℕ → List ℤ → ℕ → List ℤ → List ℤ
+sums_moved sums at effects from values =
+    sets sums at (tabulated component_count (λ j. moved_by (get_or sums (at + j) (pos 0)) (get_or effects (from + j) (pos 0)) (get_or values j (pos 0))))
 
 -- there is room for all of it
-pub record MovesInRange (sums effects : List ℤ) (n y z : ℤ) : Type 0 where
+pub record MovesInRange (sums effects values : List ℤ) : Type 0 where
   pub sums_range : (i : ℕ) → nat_abs (get_or sums i (pos 0)) ≤ total_most
-  pub effects_range : (i : ℕ) → nat_abs (get_or effects i (pos 0)) ≤ effect_limit
-  pub n_range : nat_abs n ≤ effect_limit
-  pub y_range : nat_abs y ≤ effect_limit
-  pub z_range : nat_abs z ≤ effect_limit
+  pub effects_range : EffectsWithin effects
+  pub values_range : EffectsWithin values

@@ -24,7 +24,7 @@ use Rattle.tags.specs.Run.{run_of}
 use Rattle.fields.specs.Order.{field_of, reading}
 use Rattle.fields.proofs.Refused.{refused_unchanged}
 use Rattle.fields.proofs.Within.{within}
-use Rattle.saving.specs.declared.Saved.TheVariants.{Written}
+use Rattle.std.specs.Prelude.{Ok}
 use Rattle.restoring.proofs.Framing.{front_read}
 use Rattle.restoring.proofs.RoundTrip.{round_trip, same_bytes, bytes_differ}
 use Rattle.answers.specs.Answers.{answer_bytes, answer_room}
@@ -116,7 +116,7 @@ module _ (w : Sheet) (h : InRange w) where
     saves = λ out out' r f l. (long_enough w out out' l f).0;
   }
 
-  read_back : (out out' : List ℕ) (n : ℕ) → SaveOn w out (Written n) out' → (s₀ : Sheet) → Restores (take n out') s₀ w
+  read_back : (out out' : List ℕ) (n : ℕ) → SaveOn w out (Ok n) out' → (s₀ : Sheet) → Restores (take n out') s₀ w
   read_back out out' n f s₀ = rw (saving_written w out out' n f) (restores (round_trip w s₀ h))
 
   second : Demand2 w w

@@ -20,8 +20,10 @@ use Rattle.fields.specs.Readings.{ReadThrough, end, field}
 use Rattle.fields.proofs.Kept.{read_kept}
 use Rattle.fields.proofs.Consumed.{same_with_room}
 use Rattle.answers.specs.Answers.{answer_bytes, answer_room}
-use Rattle.saving.specs.declared.Saved.{Saved}
-use Rattle.saving.specs.declared.Saved.TheVariants.{Written, Refused}
+use Rattle.std.specs.Prelude.{Result, Ok, Err}
+use Rattle.refusals.specs.declared.Refusal.{Refusal}
+use Rattle.refusals.specs.declared.Refusal.TheVariants.{ShortOutput}
+use Rattle.refusals.specs.Numbers.{number}
 use Rattle.saved_fields.specs.Saved.{saved_bytes}
 use Rattle.saving.specs.Saving.{saved_answer, saved_over}
 use Rattle.restoring.proofs.RoundTrip.{in_range_made}
@@ -104,24 +106,24 @@ restores_unique (one_more {b} {bs} {s} e p) (one_more f q) = restores_unique (p 
 
 -- ---- a saving: refused where the output is too short, and otherwise the saved bytes
 module _ (s : Sheet) (out out' : List ℕ) where
-  pub too_short : length out < length (saved_bytes s) → {r : Saved} → SaveOn s out r out' → (r ≡ Refused 14) × (out' ≡ out)
+  pub too_short : length out < length (saved_bytes s) → {r : Result ℕ Refusal} → SaveOn s out r out' → (r ≡ Err ShortOutput) × (out' ≡ out)
   unfolding saved_answer saved_over
   too_short l f = rw (lt-ltb _ _ l) at f
 
-  pub long_enough : length (saved_bytes s) ≤ length out → {r : Saved} → SaveOn s out r out' → (r ≡ Written (length (saved_bytes s))) × (out' ≡ over (saved_bytes s) out)
+  pub long_enough : length (saved_bytes s) ≤ length out → {r : Result ℕ Refusal} → SaveOn s out r out' → (r ≡ Ok (length (saved_bytes s))) × (out' ≡ over (saved_bytes s) out)
   unfolding saved_answer saved_over
   long_enough l f = rw (le-ltb _ _ l) at f
 
-  written_refused : {A : Type 0} (n k : ℕ) → Written n ≡ Refused k → A
-  written_refused n k e = let z : ◌≡◌ {A = ℕ} 0 1 = cc in absurd (omega arith)
+  written_refused : {A : Type 0} (n : ℕ) (refusal : Refusal) → ◌≡◌ {A = Result ℕ Refusal} (Ok n) (Err refusal) → A
+  written_refused n refusal e = let z : ◌≡◌ {A = ℕ} 0 1 = cc in absurd (omega arith)
 
-  pub saving_refused : (n : ℕ) → SaveOn s out (Refused n) out' → (n ≡ 14) × (out' ≡ out)
-  saving_refused n f =
-      ⊎_elim (λ l. let g = too_short l f in ((cc), g.1)) (λ l. written_refused _ n (sym (long_enough l f).0)) (lt_or_ge (length out) (length (saved_bytes s)))
+  pub saving_refused : (refusal : Refusal) → SaveOn s out (Err refusal) out' → (number refusal ≡ 14) × (out' ≡ out)
+  saving_refused refusal f =
+      ⊎_elim (λ l. let g = too_short l f in let e : refusal ≡ ShortOutput = cc in (ap number e, g.1)) (λ l. written_refused _ refusal (sym (long_enough l f).0)) (lt_or_ge (length out) (length (saved_bytes s)))
 
-  pub saving_written : (n : ℕ) → SaveOn s out (Written n) out' → take n out' ≡ saved_bytes s
+  pub saving_written : (n : ℕ) → SaveOn s out (Ok n) out' → take n out' ≡ saved_bytes s
   saving_written n f =
-      ⊎_elim (λ l. written_refused n 14 (too_short l f).0)
+      ⊎_elim (λ l. written_refused n ShortOutput (too_short l f).0)
       (λ l.
       let g = long_enough l f in
       let e : n ≡ length (saved_bytes s) = cc in

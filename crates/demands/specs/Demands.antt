@@ -1,5 +1,5 @@
 -- SCOPE 10: the three demands, about any list of readings.
-use Rattle.std.specs.Prelude.{ℕ, ◌+◌, ◌≤◌, ◌<◌, ◌≡◌, ◌↔◌, List, ◌∷◌, length, take}
+use Rattle.std.specs.Prelude.{ℕ, ◌+◌, ◌≤◌, ◌<◌, ◌≡◌, ◌↔◌, List, ◌∷◌, length, take, Result, Ok, Err}
 use Rattle.wire.specs.Bytes.{over}
 use Rattle.standard.specs.Combination.{Combination, case_count, named}
 use Rattle.standard.specs.Governing.{EmptyTankConsidered, Maximum, Minimum, Utilisation}
@@ -17,8 +17,8 @@ use Rattle.headers.specs.Headers.{length_in, body_of}
 use Rattle.fields.specs.Field.{due, field_tag, read_field}
 use Rattle.answers.specs.Answers.{answer_bytes, answer_room}
 use Rattle.decoding.specs.Decoding.{decoded}
-use Rattle.saving.specs.declared.Saved.{Saved}
-use Rattle.saving.specs.declared.Saved.TheVariants.{Written, Refused}
+use Rattle.refusals.specs.declared.Refusal.{Refusal}
+use Rattle.refusals.specs.Numbers.{number}
 use Rattle.saved_fields.specs.Saved.{saved_bytes}
 use Rattle.demands.specs.Readings.{Made, ReadOn, Readings, worked_out, SaveOn, Restores}
 
@@ -44,8 +44,8 @@ pub record Demand1 (w s : Sheet) : Type 0 where
   pub written : (m : Made) → ReadOn s m → m.result.written ≤ length m.out
   pub goes_on : (m : Made) → ReadOn s m → InRange m.result.sheet
   -- saving is refused by 14 with the output unchanged, and only where the output is too short (SCOPE 8.2)
-  pub unsaved : (out out' : List ℕ) (n : ℕ) → SaveOn s out (Refused n) out' → (n ≡ 14) × (out' ≡ out)
-  pub saves : (out out' : List ℕ) (r : Saved) → SaveOn s out r out' → length (saved_bytes w) ≤ length out → r ≡ Written (length (saved_bytes w))
+  pub unsaved : (out out' : List ℕ) (refusal : Refusal) → SaveOn s out (Err refusal) out' → (number refusal ≡ 14) × (out' ≡ out)
+  pub saves : (out out' : List ℕ) (r : Result ℕ Refusal) → SaveOn s out r out' → length (saved_bytes w) ≤ length out → r ≡ Ok (length (saved_bytes w))
 
 -- two sheets hold the same, by their accessors (SCOPE 10.2)
 pub record HoldsSame (a b : Sheet) : Type 0 where
@@ -62,10 +62,10 @@ pub record Demand2 (w s : Sheet) : Type 0 where
   pub answered : (m : Made) → ReadOn s m → m.result ≡ read_field m.input (length m.out) w
   pub bytes : (m : Made) → ReadOn s m → m.out' ≡ over (answer_bytes m.result.answer) m.out
   -- the bytes that a saving leaves in the output (SCOPE 8.1)
-  pub saved : (out out' : List ℕ) (n : ℕ) → SaveOn s out (Written n) out' → take n out' ≡ saved_bytes w
+  pub saved : (out out' : List ℕ) (n : ℕ) → SaveOn s out (Ok n) out' → take n out' ≡ saved_bytes w
   -- reading them, on any sheet, restores exactly the sheet, and no other
-  pub restored : (out out' : List ℕ) (n : ℕ) → SaveOn s out (Written n) out' → (s₀ : Sheet) → Restores (take n out') s₀ w
-  pub restores_one : (out out' : List ℕ) (n : ℕ) → SaveOn s out (Written n) out' → (s₀ s₁ : Sheet) → Restores (take n out') s₀ s₁ → s₁ ≡ w
+  pub restored : (out out' : List ℕ) (n : ℕ) → SaveOn s out (Ok n) out' → (s₀ : Sheet) → Restores (take n out') s₀ w
+  pub restores_one : (out out' : List ℕ) (n : ℕ) → SaveOn s out (Ok n) out' → (s₀ s₁ : Sheet) → Restores (take n out') s₀ s₁ → s₁ ≡ w
   -- sheets that hold the same are equal, equal sheets save to equal bytes, and sheets that differ to bytes that differ
   pub same : (s₁ : Sheet) → InRange s₁ → HoldsSame s₁ w → s₁ ≡ w
   pub equal : (s₁ : Sheet) → s₁ ≡ w → saved_bytes s₁ ≡ saved_bytes s

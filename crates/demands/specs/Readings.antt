@@ -1,5 +1,5 @@
 -- SCOPE 9.1 and 9.2: readings and savings as the calls that a program makes ensure them, and the sheet worked out from a list of them.
-use Rattle.std.specs.Prelude.{ℕ, ◌≤◌, ◌≡◌, ◌↔◌, List, [], ◌∷◌, map, length, drop}
+use Rattle.std.specs.Prelude.{ℕ, ◌≤◌, ◌≡◌, ◌↔◌, List, [], ◌∷◌, map, length, drop, Result}
 use Rattle.sheet.specs.declared.Sheet.{Sheet}
 use Rattle.sheet.specs.declared.Answer.TheVariants as answer
 use Rattle.sheet.specs.Sheet.{fresh_sheet}
@@ -8,7 +8,7 @@ use Rattle.fields.specs.declared.Reading.{Reading}
 use Rattle.fields.specs.Field.{read_field}
 use Rattle.fields.specs.Readings.{FieldRead}
 use Rattle.answers.specs.Answers.{answer_room}
-use Rattle.saving.specs.declared.Saved.{Saved}
+use Rattle.refusals.specs.declared.Refusal.{Refusal}
 use Rattle.saving.specs.Saving.{saved_answer, saved_over}
 
 -- what is given to a reading: bytes, and the length of the output (SCOPE 9.2)
@@ -77,7 +77,7 @@ abbrev pub AnyReadings : Type 0
 AnyReadings = (cs : List Call) (s : Sheet) → InRange s → ReadInTurn cs s
 
 -- what `save` and `save_in` ensure: the sheet, the output before, the result and the output after (SCOPE 8.2)
-abbrev pub SaveOn : Sheet → List ℕ → Saved → List ℕ → Type 0
+abbrev pub SaveOn : Sheet → List ℕ → Result ℕ Refusal → List ℕ → Type 0
 SaveOn s out r out' = (r ≡ saved_answer s (length out)) × (out' ≡ saved_over s out)
 
 -- a reading of these bytes on a sheet, with an output that has room for an answer (SCOPE 10.2)

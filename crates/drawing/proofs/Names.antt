@@ -10,6 +10,8 @@ use borrow.Author.Tests.{leb-true}
 use lib.ListN.{length, take, drop}
 use lib.Seq.{get_or-drop}
 use lib.Dec.{eqb, leb}
+use Rattle.std.specs.Prelude.{Some, None}
+use Rattle.std.specs.Option.{unwrap_or}
 use Rattle.wire.specs.Bytes.{byte_at}
 use Rattle.wire.proofs.Cases.{both}
 use Rattle.refusals.specs.Refusals.{case_outside}
@@ -32,6 +34,11 @@ unfolding last_of
 named_next {file} {case} {at} {found} h e =
     let x = left_next h.ahead e in
     record { ahead = x.later; last = h.last ∙ ap (λ (ps : List ℕ). last_of case file ps found) x.split }
+
+-- the name of the field, or the one found before
+pub found_or : (t : Bool) (name found : NamePlace) → unwrap_or (cond t (Some name) None) found ≡ cond t name found
+found_or true name found = refl
+found_or false name found = refl
 
 pub named_end : {file : List ℕ} {case at : ℕ} {found : NamePlace} → Named file case at found → is_cut (drop at file) ≡ true → found ≡ last_of case file (places_of file) no_name
 unfolding last_of

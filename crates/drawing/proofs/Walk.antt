@@ -1,22 +1,23 @@
 -- The walk over the whole fields of a file: a field that is cut ends it, and after a whole one it goes on where that one ends.
 -- Assumes nothing.
 use Prim.Native.Nat.{ℕ, zero, suc, ◌+◌, ◌-◌, ◌≤◌}
-use mathlib.Core.Path.{◌≡◌, refl, sym, ◌∙◌}
+use mathlib.Core.Path.{◌≡◌, refl, sym, ap, ◌∙◌}
+use Rattle.std.specs.Option.{option_map_or}
 use mathlib.Core.List.{List, [], ◌∷◌}
 use mathlib.Core.Bool.{true, false}
 use mathlib.Core.Logic.{⊎_elim}
 use native.Mathlib.Omega.{arith}
 use lib.ListN.{length, take, drop, length-drop}
 use Rattle.headers.specs.declared.Header.{Header}
-use Rattle.headers.specs.declared.Header.TheVariants.{Field, Short}
-use Rattle.headers.specs.Headers.{tag_of, length_in, is_cut, header_of}
+use Rattle.std.specs.Prelude.{Option, Some, None}
+use Rattle.headers.specs.Headers.{tag_of, length_in, is_cut, header, header_of}
 use Rattle.headers.proofs.Whole.{by_header, whole_long, header_fits, part_from}
 use Rattle.drawing.specs.Names.{places_from, places_of}
 
 -- a field without a header is cut
-pub header_cut : (file : List ℕ) (at : ℕ) {h : Header} → h ≡ header_of (take (length file - at) (drop at file)) → h ≡ Short → is_cut (drop at file) ≡ true
+pub header_cut : (file : List ℕ) (at : ℕ) {o : Option Header} → o ≡ header_of (take (length file - at) (drop at file)) → o ≡ None → is_cut (drop at file) ≡ true
 header_cut file at e s =
-    let g : header_of (drop at file) ≡ Short = sym (rw (part_from file at) at e) ∙ s in
+    let g : header_of (drop at file) ≡ None = sym (rw (part_from file at) at e) ∙ s in
     ⊎_elim
     (λ p. p.0)
     (λ p. absurd (let z : ◌≡◌ {A = ℕ} 0 1 = cc p.1 in omega arith))
@@ -29,14 +30,15 @@ pub record Whole (file : List ℕ) (at tag len : ℕ) : Type 0 where
   pub length_in_lem : len ≡ length_in (drop at file)
   pub fits : at + (3 + len) ≤ length file
 
-pub header_whole : (file : List ℕ) (at tag len : ℕ) {h : Header} → h ≡ header_of (take (length file - at) (drop at file)) → h ≡ Field tag len → Whole file at tag len
-header_whole file at tag len e f =
-    let g : header_of (drop at file) ≡ Field tag len = sym (rw (part_from file at) at e) ∙ f in
+pub header_whole : (file : List ℕ) (at : ℕ) (h : Header) {o : Option Header} → o ≡ header_of (take (length file - at) (drop at file)) → o ≡ Some h → Whole file at h.tag h.len
+header_whole file at h e f =
+    let g : header_of (drop at file) ≡ Some h = sym (rw (part_from file at) at e) ∙ f in
     let l : length (drop at file) ≡ length file - at = length-drop at file in
-    let fits = header_fits (drop at file) tag len (sym g) refl in
+    let fits = header_fits (drop at file) h (sym g) refl in
+    let same = λ (e : Some h ≡ Some (header (tag_of (drop at file)) (length_in (drop at file)))). ap (λ o. option_map_or (λ (x : Header). x) o h) e in
     ⊎_elim
     (λ p. absurd (let z : ◌≡◌ {A = ℕ} 0 1 = cc p.1 in omega arith))
-    (λ p. record { uncut = p.0; tag_of_lem = cc p.1; length_in_lem = cc p.1; fits = omega arith })
+    (λ p. record { uncut = p.0; tag_of_lem = ap (λ (x : Header). x.tag) (same (sym g ∙ p.1)); length_in_lem = ap (λ (x : Header). x.len) (same (sym g ∙ p.1)); fits = omega arith })
     (by_header (drop at file))
 
 -- a field that is not cut lies in the file

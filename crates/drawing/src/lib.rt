@@ -2,8 +2,8 @@
 
 #![tactic(auto)]
 
-ghost use Rattle.std.specs.Prelude.{◌≡◌, cond, ◌+◌, ◌≤◌, length, drop};
-ghost use Rattle.headers.specs.Headers.{tag_of, length_in};
+ghost use Rattle.std.specs.Prelude.{◌≡◌, ◌≤◌, cond, length, drop};
+ghost use Rattle.drawing.specs.Fields.{FieldOf, FieldAt};
 ghost use Rattle.drawing.specs.Names.{names_case, name_at, name_place, case_name, whole_end};
 
 use headers::{Header, NAME_TAG};
@@ -17,24 +17,43 @@ pub struct NamePlace {
     pub len: usize,
 }
 
-// The name in the field at a place, with this tag and length, if it names the case; else the one found before it.
-fn found_at(file: &[u8], at: usize, tag: u8, len: usize, case: u8, found: NamePlace) -> NamePlace
-    requires { (tag ≡ tag_of (drop at file.now)) × (len ≡ length_in (drop at file.now)) × (at + (3 + len) ≤ length file.now) }
-    ensures { result ≡ cond (names_case case (drop at file.now)) (name_at file.now at) found }
-{
-    if tag != NAME_TAG {
-        return found;
+// A whole field of a file: where it begins, its header, and where it ends.
+#[derive(Clone, Copy)]
+struct Field {
+    at: usize,
+    header: Header,
+    end: usize,
+}
+
+impl Field {
+    // The field at a place of a file, none where it is cut.
+    fn at(file: &[u8], at: usize) -> Option<Field>
+        requires { at ≤ length file.now }
+        ensures { FieldAt file.now at result }
+    {
+        let Some(header) = headers::header_of(&file[at..]) else {
+            return None;
+        };
+        let end = at + (3 + header.len);
+        Some(Field { at, header, end })
     }
-    if !headers::is_name_length(len) {
-        return found;
-    }
-    let named = wire::byte(file, at + 3);
-    if named != case {
-        return found;
-    }
-    NamePlace {
-        from: at + 4,
-        len: len - 1,
+
+    // The name in the field, where it is one of the case.
+    fn name_of(self, file: &[u8], case: u8) -> Option<NamePlace>
+        requires { FieldOf file.now self.at self }
+        ensures { result ≡ cond (names_case case (drop self.at file.now)) (Some (name_at file.now self.at)) None }
+    {
+        let Header { tag, len } = self.header;
+        if tag != NAME_TAG
+            || !headers::is_name_length(len)
+            || wire::byte(file, self.at + 3) != case
+        {
+            return None;
+        }
+        Some(NamePlace {
+            from: self.at + 4,
+            len: len - 1,
+        })
     }
 }
 
@@ -47,15 +66,12 @@ pub fn name_place(file: &[u8], case: u8) -> NamePlace
     if LAST_CASE < case {
         return found;
     }
-    let mut at: usize = 0;
-    loop {
-        let h = headers::header_of(&file[at..]);
-        let Header::Field { tag, len } = h else {
-            return found;
-        };
-        found = found_at(file, at, tag, len, case, found);
-        at = at + (3 + len);
+    let mut at = 0;
+    while let Some(field) = Field::at(file, at) {
+        found = field.name_of(file, case).unwrap_or(found);
+        at = field.end;
     }
+    found
 }
 
 // The name of a case, as that part of the file itself; no bytes where it has none.
@@ -72,12 +88,9 @@ pub fn case_name(file: &[u8], case: u8) -> &[u8]
 pub fn whole_end(file: &[u8]) -> usize
     ensures { result ≡ whole_end file.now }
 {
-    let mut at: usize = 0;
-    loop {
-        let h = headers::header_of(&file[at..]);
-        let Header::Field { tag: _, len } = h else {
-            return at;
-        };
-        at = at + (3 + len);
+    let mut end = 0;
+    while let Some(field) = Field::at(file, end) {
+        end = field.end;
     }
+    end
 }

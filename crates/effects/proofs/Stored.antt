@@ -15,31 +15,32 @@ use Rattle.wire.proofs.Stores.{sets_keep, sets_below, sets_above, sets_at_lem, r
 use Rattle.effects.specs.Effects.{effect_count, effect_in, place, cleared}
 
 -- ---- three stored
--- A triple stored at i leaves what is read of another triple, at m: both stand at multiples of three.
-pub triple_other : {A : Type 0} (d : A) (l : List A) (x y z : A) (i m a b j : ℕ) → i ≡ a * 3 → m ≡ b * 3 → (b ≡ a → ⊥) → j < component_count →
-    get_or (sets l i (x ∷ y ∷ z ∷ [])) (m + j) d ≡ get_or l (m + j) d
-triple_other d l x y z i m a b j p q ne h =
+-- Three stored at i leave what is read of another three, at m: both stand at multiples of three.
+pub triple_other : {A : Type 0} (d : A) (l values : List A) → length values ≡ component_count → (i m a b j : ℕ) → i ≡ a * 3 → m ≡ b * 3 → (b ≡ a → ⊥) → j < component_count →
+    get_or (sets l i values) (m + j) d ≡ get_or l (m + j) d
+triple_other d l values three i m a b j p q ne h =
     ⊎_elim
-    (λ (u : m + j < i). sets_below d (x ∷ y ∷ z ∷ []) l i (m + j) u)
+    (λ (u : m + j < i). sets_below d values l i (m + j) u)
     (λ (u : i ≤ m + j).
-    let g : i + 3 ≤ m + j = ⊎_elim
+    let g : i + length values ≤ m + j = ⊎_elim
     (λ (w : m + j < i + 3). absurd (ne (omega arith)))
-    (λ (w : i + 3 ≤ m + j). w)
+    (λ (w : i + 3 ≤ m + j). rw three w)
     (lt_or_ge (m + j) (i + 3)) in
-    sets_above d (x ∷ y ∷ z ∷ []) l i (m + j) g)
+    sets_above d values l i (m + j) g)
     (lt_or_ge (m + j) i)
 
-pub effects_other : (l : List ℤ) (k t : ℕ) (n y z : ℤ) (k' t' j : ℕ) → k < case_count → k' < case_count → ((k' ≡ k) × (t' ≡ t) → ⊥) → j < component_count →
-    effect_in (sets l (place k t) (n ∷ y ∷ z ∷ [])) k' t' j ≡ effect_in l k' t' j
-effects_other l k t n y z k' t' j a b ne h =
-    triple_other (pos 0) l n y z (place k t) (place k' t') (t * case_count + k) (t' * case_count + k') j (omega arith) (omega arith)
-    (λ e. ne (omega arith, omega arith)) h
+module _ (l : List ℤ) (k t : ℕ) (values : List ℤ) (three : length values ≡ component_count) where
+  pub effects_other : (k' t' j : ℕ) → k < case_count → k' < case_count → ((k' ≡ k) × (t' ≡ t) → ⊥) → j < component_count →
+      effect_in (sets l (place k t) values) k' t' j ≡ effect_in l k' t' j
+  effects_other k' t' j a b ne h =
+      triple_other (pos 0) l values three (place k t) (place k' t') (t * case_count + k) (t' * case_count + k') j (omega arith) (omega arith)
+      (λ e. ne (omega arith, omega arith)) h
 
-pub effects_at_lem : (l : List ℤ) (k t : ℕ) (n y z : ℤ) (j : ℕ) → length l ≡ effect_count → k < case_count → t < station_count → j < component_count →
-    effect_in (sets l (place k t) (n ∷ y ∷ z ∷ [])) k t j ≡ get_or (n ∷ y ∷ z ∷ []) j (pos 0)
-effects_at_lem l k t n y z j long a b g =
-    let w : place k t + 3 ≤ length l = rw long (omega arith) in
-    sets_at_lem (pos 0) (n ∷ y ∷ z ∷ []) l (place k t) j g w
+  pub effects_at_lem : (j : ℕ) → length l ≡ effect_count → k < case_count → t < station_count → j < component_count →
+      effect_in (sets l (place k t) values) k t j ≡ get_or values j (pos 0)
+  effects_at_lem j long a b g =
+      let w : place k t + length values ≤ length l = rw (three, long) (omega arith) in
+      sets_at_lem (pos 0) values l (place k t) j (rw three g) w
 
 -- ---- a case cleared
 pub length_cleared : (l : List ℤ) (k n : ℕ) → length (cleared l k n) ≡ length l
@@ -68,7 +69,7 @@ pub cleared_other : (l : List ℤ) (k k' : ℕ) → k < case_count → k' < case
 unfolding cleared
 cleared_other l k k' a b ne zero t j h = refl
 cleared_other l k k' a b ne (suc n) t j h =
-    effects_other (cleared l k n) k n (pos 0) (pos 0) (pos 0) k' t j a b (λ e. ne e.0) h ∙ cleared_other l k k' a b ne n t j h
+    effects_other (cleared l k n) k n (pos 0 ∷ pos 0 ∷ pos 0 ∷ []) refl k' t j a b (λ e. ne e.0) h ∙ cleared_other l k k' a b ne n t j h
 
 -- an effect within its limit
 abbrev pub Within : ℤ → Type 0

@@ -8,22 +8,22 @@ use borrow.Author.Tests.{le-ltb}
 use lib.ListN.{length}
 use Rattle.sheet.specs.declared.Sheet.{Sheet}
 use Rattle.headers.specs.declared.Header.{Header}
-use Rattle.headers.specs.declared.Header.TheVariants.{Field, Short}
+use Rattle.std.specs.Prelude.{Option, Some, None}
 use Rattle.headers.specs.Headers.{header_of, consumed_of, consumed_by}
 use Rattle.fields.specs.Field.{read_field}
 use Rattle.fields.specs.Order.{read_header, read_in_order}
 use Rattle.fields.proofs.InOrder.{read_is}
 use Rattle.answers.specs.Answers.{answer_bytes, answer_room}
 
-header_consumed : (h : Header) (input : List ℕ) (s : Sheet) → (read_header h input s).consumed ≡ consumed_of h input
+header_consumed : (h : Option Header) (input : List ℕ) (s : Sheet) → (read_header h input s).consumed ≡ consumed_of h input
 unfolding read_header
-header_consumed Short input s = refl
-header_consumed (Field tag len) input s = refl
+header_consumed None input s = refl
+header_consumed (Some h) input s = refl
 
-header_written : (h : Header) (input : List ℕ) (s : Sheet) → (read_header h input s).written ≡ length (answer_bytes (read_header h input s).answer)
+header_written : (h : Option Header) (input : List ℕ) (s : Sheet) → (read_header h input s).written ≡ length (answer_bytes (read_header h input s).answer)
 unfolding read_header
-header_written Short input s = refl
-header_written (Field tag len) input s = refl
+header_written None input s = refl
+header_written (Some h) input s = refl
 
 module _ (input : List ℕ) (s : Sheet) where
   in_order : (room : ℕ) → answer_room ≤ room → read_in_order input room s ≡ read_header (header_of input) input s

@@ -16,8 +16,8 @@ use Rattle.refusals.specs.Refusals.{on, first_due}
 use Rattle.sheet.specs.declared.Sheet.{Sheet}
 use Rattle.sheet.specs.declared.Answer.{Answer}
 use Rattle.sheet.specs.Looks.{unless_due}
-use Rattle.headers.specs.declared.Header.TheVariants.{Field, Short}
-use Rattle.headers.specs.Headers.{tag_of, length_in, body_of, is_cut, header_of, length_of, last_tag, name_number, name_length, due_header}
+use Rattle.std.specs.Prelude.{Some, None}
+use Rattle.headers.specs.Headers.{tag_of, length_in, body_of, is_cut, header, header_of, length_of, last_tag, name_number, name_length, due_header}
 use Rattle.headers.proofs.Whole.{header_fits, by_header}
 use Rattle.answers.specs.Answers.{answer_room, answer_bytes}
 use Rattle.fields.specs.declared.Reading.{Reading}
@@ -83,17 +83,17 @@ module _ (input : List ℕ) (room : ℕ) (s : Sheet) where
   full r = rw r
 
   -- a field that is cut
-  short : ltb room answer_room ≡ false → is_cut input ≡ true → header_of input ≡ Short → read_field input room s ≡ read_in_order input room s
+  short : ltb room answer_room ≡ false → is_cut input ≡ true → header_of input ≡ None → read_field input room s ≡ read_in_order input room s
   unfolding read_field read_in_order due read_header
   short r k h = rw (r, k, h)
 
   -- a whole field
-  body_long : header_of input ≡ Field (tag_of input) (length_in input) → length (body_of input) ≡ length_in input
+  body_long : header_of input ≡ Some (header (tag_of input) (length_in input)) → length (body_of input) ≡ length_in input
   body_long h =
-      let f : 3 + length_in input ≤ length input = header_fits input (tag_of input) (length_in input) refl h in
+      let f : 3 + length_in input ≤ length input = header_fits input (header (tag_of input) (length_in input)) refl h in
       simp (length-take, length-drop) (omega arith)
 
-  whole : ltb room answer_room ≡ false → is_cut input ≡ false → header_of input ≡ Field (tag_of input) (length_in input) → read_field input room s ≡ read_in_order input room s
+  whole : ltb room answer_room ≡ false → is_cut input ≡ false → header_of input ≡ Some (header (tag_of input) (length_in input)) → read_field input room s ≡ read_in_order input room s
   unfolding read_field read_in_order due read_header field_of run_of
   whole r k h =
       let b = body_of input in

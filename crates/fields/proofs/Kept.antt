@@ -11,7 +11,7 @@ use Rattle.sheet.specs.Looks.{looked_extremes, looked_utilisation}
 use Rattle.sheet.specs.Range.{InRange}
 use Rattle.sheet.proofs.Kept.{tried_kept, restarted, fill_kept, effects_kept, emptied_kept, capacities_kept, switch_kept, straining_kept}
 use Rattle.headers.specs.declared.Header.{Header}
-use Rattle.headers.specs.declared.Header.TheVariants.{Field, Short}
+use Rattle.std.specs.Prelude.{Option, Some, None}
 use Rattle.fields.specs.declared.Reading.{Reading}
 use Rattle.headers.specs.Headers.{header_of, due_header}
 use Rattle.fields.specs.Field.{read_field}
@@ -36,10 +36,10 @@ pub field_kept : (s : Sheet) (tag : ℕ) (b : List ℕ) → InRange s → InRang
 unfolding field_of
 field_kept s tag b h = both AnsweredInRange (eqb (due_header tag (length b)) 0) (run_kept s tag b h) h
 
-header_kept : (h : Header) (input : List ℕ) (s : Sheet) → InRange s → InRange (read_header h input s).sheet
+header_kept : (h : Option Header) (input : List ℕ) (s : Sheet) → InRange s → InRange (read_header h input s).sheet
 unfolding read_header
-header_kept Short input s h = h
-header_kept (Field tag len) input s h = field_kept s tag (take len (drop 3 input)) h
+header_kept None input s h = h
+header_kept (Some field) input s h = field_kept s field.tag (take field.len (drop 3 input)) h
 
 order_kept : (input : List ℕ) (room : ℕ) (s : Sheet) → InRange s → InRange (read_in_order input room s).sheet
 unfolding read_in_order

@@ -13,7 +13,7 @@ use Rattle.sheet.specs.declared.Answer.{Answer}
 use Rattle.sheet.specs.declared.Answered.{Answered}
 use Rattle.refusals.specs.Refusals.{first_due}
 use Rattle.headers.specs.declared.Header.{Header}
-use Rattle.headers.specs.declared.Header.TheVariants.{Field, Short}
+use Rattle.std.specs.Prelude.{Option, Some, None}
 use Rattle.headers.specs.Headers.{header_of, length_of, last_tag, name_number, name_length, due_header, consumed_by, consumed_of, ready_of}
 use Rattle.fields.specs.Field.{read_field}
 use Rattle.tags.specs.Run.{run_of}
@@ -53,20 +53,20 @@ field_not_last : (s : Sheet) (tag : ℕ) (b : List ℕ) → NotLastAnswer (field
 unfolding field_of
 field_not_last s tag b = both NotLastAnswer (eqb (due_header tag (length b)) 0) (run_not_last s tag b) (header_not_3 tag (length b))
 
-header_last : (h : Header) (input : List ℕ) (s : Sheet) → last_of (read_header h input s).answer ≡ true → h ≡ Short
+header_last : (h : Option Header) (input : List ℕ) (s : Sheet) → last_of (read_header h input s).answer ≡ true → h ≡ None
 unfolding read_header
-header_last Short input s e = refl
-header_last (Field tag len) input s e =
-    let n = sym (field_not_last s tag (take len (drop 3 input))) ∙ e in
+header_last None input s e = refl
+header_last (Some h) input s e =
+    let n = sym (field_not_last s h.tag (take h.len (drop 3 input))) ∙ e in
     absurd (let z : ◌≡◌ {A = ℕ} 0 1 = cc in omega arith)
 
-order_last : (input : List ℕ) (s : Sheet) → last_of (read_in_order input answer_room s).answer ≡ true → header_of input ≡ Short
+order_last : (input : List ℕ) (s : Sheet) → last_of (read_in_order input answer_room s).answer ≡ true → header_of input ≡ None
 unfolding read_in_order
 order_last input s e = header_last (header_of input) input s e
 
-last_short : (input : List ℕ) (s : Sheet) → last_of (read_field input answer_room s).answer ≡ true → header_of input ≡ Short
+last_short : (input : List ℕ) (s : Sheet) → last_of (read_field input answer_room s).answer ≡ true → header_of input ≡ None
 last_short input s e = order_last input s (ap (λ (r : Reading). last_of r.answer) (sym (read_is input answer_room s)) ∙ e)
 
 pub last_all : (input t : List ℕ) (s : Sheet) → ready_of input ≡ true → last_of (read_field input answer_room s).answer ≡ true →
     consumed_by (input ++ t) ≡ length (input ++ t)
-last_all input t s r e = ap (λ (h : Header). consumed_of h (input ++ t)) (header_same input t r ∙ last_short input s e)
+last_all input t s r e = ap (λ (h : Option Header). consumed_of h (input ++ t)) (header_same input t r ∙ last_short input s e)

@@ -14,9 +14,9 @@ use lib.Dec.{ltb}
 use Rattle.wire.specs.Bytes.{byte_at, word_at}
 use Rattle.sheet.specs.declared.Sheet.{Sheet}
 use Rattle.headers.specs.declared.Header.{Header}
-use Rattle.headers.specs.declared.Header.TheVariants.{Field, Short}
+use Rattle.std.specs.Prelude.{Option, Some, None}
 use Rattle.fields.specs.declared.Reading.{Reading}
-use Rattle.headers.specs.Headers.{longest_body, header_of, consumed_of, consumed_by, ready_of}
+use Rattle.headers.specs.Headers.{longest_body, header, header_of, consumed_of, consumed_by, ready_of}
 use Rattle.answers.specs.Answers.{last_of, answer_room}
 use Rattle.fields.specs.Field.{read_field}
 use Rattle.fields.specs.Order.{read_header, read_in_order}
@@ -36,7 +36,7 @@ ready_tests false true c e = (refl, inl refl)
 ready_tests false false true e = absurd (let z : ◌≡◌ {A = ℕ} 0 1 = cc in omega arith)
 ready_tests false false false e = (refl, inr (refl, refl))
 
-later_tests : (b c c' : Bool) (h : Header) → (b ≡ true) ⊎ (c ≡ c') → cond b Short (cond c Short h) ≡ cond b Short (cond c' Short h)
+later_tests : (b c c' : Bool) (h : Option Header) → (b ≡ true) ⊎ (c ≡ c') → cond b None (cond c None h) ≡ cond b None (cond c' None h)
 later_tests b c c' h = ⊎_elim (λ e. rw e) (λ e. rw e)
 
 by_room : (full : Bool) (a r r' : Reading) → SameReading r r' → SameReading (cond full a r) (cond full a r')
@@ -59,7 +59,7 @@ module _ (s t : List ℕ) where
       inr (le-ltb (length (s ++ t) - 3) (word_at s 1) k' ∙ sym b.1))
       x.1 in
       rw (le-ltb (length (s ++ t)) 3 a', x.0, length_same s t a, byte_same s t 0 (omega arith))
-      (later_tests (ltb longest_body (word_at s 1)) (ltb (length (s ++ t) - 3) (word_at s 1)) (ltb (length s - 3) (word_at s 1)) (Field (byte_at s 0) (word_at s 1)) c)
+      (later_tests (ltb longest_body (word_at s 1)) (ltb (length (s ++ t) - 3) (word_at s 1)) (ltb (length s - 3) (word_at s 1)) (Some (header (byte_at s 0) (word_at s 1))) c)
 
   body_same : (len : ℕ) → 3 + len ≤ length s → take len (drop 3 (s ++ t)) ≡ take len (drop 3 s)
   body_same len h =
@@ -67,11 +67,11 @@ module _ (s t : List ℕ) where
       let b : len ≤ length (drop 3 s) = rw length-drop (omega arith) in
       ap (take len) (drop-append-le 3 s t a) ∙ take-append-le len (drop 3 s) t b
 
-  header_read : (h : Header) (sheet : Sheet) → h ≡ header_of s → SameReading (read_header h s sheet) (read_header h (s ++ t) sheet)
+  header_read : (h : Option Header) (sheet : Sheet) → h ≡ header_of s → SameReading (read_header h s sheet) (read_header h (s ++ t) sheet)
   unfolding read_header
-  header_read Short sheet e = record { answer = refl; sheet = refl; consumed = λ x. absurd (let z : ◌≡◌ {A = ℕ} 0 1 = cc in omega arith) }
-  header_read (Field tag len) sheet e =
-      let b = body_same len (header_fits s tag len e refl) in
+  header_read None sheet e = record { answer = refl; sheet = refl; consumed = λ x. absurd (let z : ◌≡◌ {A = ℕ} 0 1 = cc in omega arith) }
+  header_read (Some h) sheet e =
+      let b = body_same h.len (header_fits s h e refl) in
       record { answer = rw b; sheet = rw b; consumed = λ _. refl }
 
   order_same : (room : ℕ) (sheet : Sheet) → ready_of s ≡ true → SameReading (read_in_order s room sheet) (read_in_order (s ++ t) room sheet)
@@ -82,7 +82,7 @@ module _ (s t : List ℕ) where
   ready_same room sheet e =
       subst (λ (f : List ℕ → Reading). SameReading (f s) (f (s ++ t))) (λ i x. sym (read_is x room sheet) i) (order_same room sheet e)
 
-cut_tests : (a b c : Bool) (h : Header) → cond a false (cond b true (cond c false true)) ≡ false → cond a Short (cond b Short (cond c Short h)) ≡ Short
+cut_tests : (a b c : Bool) (h : Option Header) → cond a false (cond b true (cond c false true)) ≡ false → cond a None (cond b None (cond c None h)) ≡ None
 cut_tests true b c h e = refl
 cut_tests false true c h e = refl
 cut_tests false false true h e = refl
@@ -91,5 +91,5 @@ cut_tests false false false h e = absurd (let z : ◌≡◌ {A = ℕ} 0 1 = cc i
 pub cut_all : (s : List ℕ) → ready_of s ≡ false → consumed_by s ≡ length s
 unfolding header_of ready_of
 cut_all s e =
-    ap (λ (h : Header). consumed_of h s)
-    (cut_tests (ltb (length s) 3) (ltb longest_body (word_at s 1)) (ltb (length s - 3) (word_at s 1)) (Field (byte_at s 0) (word_at s 1)) e)
+    ap (λ (h : Option Header). consumed_of h s)
+    (cut_tests (ltb (length s) 3) (ltb longest_body (word_at s 1)) (ltb (length s - 3) (word_at s 1)) (Some (header (byte_at s 0) (word_at s 1))) e)

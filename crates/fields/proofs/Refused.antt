@@ -12,7 +12,7 @@ use Rattle.sheet.specs.declared.Answer.TheVariants.{Accepted}
 use Rattle.sheet.specs.Edits.{unless_refused}
 use Rattle.sheet.specs.Looks.{looked_extremes, looked_utilisation, edited}
 use Rattle.headers.specs.declared.Header.{Header}
-use Rattle.headers.specs.declared.Header.TheVariants.{Field, Short}
+use Rattle.std.specs.Prelude.{Option, Some, None}
 use Rattle.fields.specs.declared.Reading.{Reading}
 use Rattle.headers.specs.Headers.{header_of, due_header}
 use Rattle.fields.specs.Field.{read_field}
@@ -44,10 +44,10 @@ field_unedited s tag b = both (Unedited s) (eqb (due_header tag (length b)) 0) (
 abbrev Unread : Sheet → Reading → Type 0
 Unread s r = (r.answer ≡ Accepted → ⊥) → r.sheet ≡ s
 
-header_unread : (h : Header) (input : List ℕ) (s : Sheet) → Unread s (read_header h input s)
+header_unread : (h : Option Header) (input : List ℕ) (s : Sheet) → Unread s (read_header h input s)
 unfolding read_header
-header_unread Short input s = λ _. refl
-header_unread (Field tag len) input s = field_unedited s tag (take len (drop 3 input))
+header_unread None input s = λ _. refl
+header_unread (Some h) input s = field_unedited s h.tag (take h.len (drop 3 input))
 
 order_unread : (input : List ℕ) (room : ℕ) (s : Sheet) → Unread s (read_in_order input room s)
 unfolding read_in_order

@@ -15,7 +15,7 @@ use Rattle.sheet.specs.declared.Sheet.{Sheet}
 use Rattle.sheet.specs.declared.Answer.TheVariants as answer
 use Rattle.sheet.specs.Range.{InRange}
 use Rattle.headers.specs.declared.Header.{Header}
-use Rattle.headers.specs.declared.Header.TheVariants.{Field, Short}
+use Rattle.std.specs.Prelude.{Option, Some, None}
 use Rattle.fields.specs.declared.Reading.{Reading}
 use Rattle.headers.specs.Headers.{header_of}
 use Rattle.fields.specs.Field.{read_field}
@@ -32,13 +32,13 @@ record Fits (input : List ℕ) (room : ℕ) (r : Reading) : Type 0 where
   written : r.written ≡ length (answer_bytes r.answer)
   answer : length (answer_bytes r.answer) ≤ room
 
-header_room : (h : Header) (input : List ℕ) (room : ℕ) (s : Sheet) → answer_room ≤ room → h ≡ header_of input → Fits input room (read_header h input s)
+header_room : (h : Option Header) (input : List ℕ) (room : ℕ) (s : Sheet) → answer_room ≤ room → h ≡ header_of input → Fits input room (read_header h input s)
 unfolding read_header
-header_room Short input room s g e = record { consumed = omega arith; written = refl; answer = omega (arith, answer_fits (answer.Refused 3)) }
-header_room (Field tag len) input room s g e = record {
-  consumed = header_fits input tag len e refl;
+header_room None input room s g e = record { consumed = omega arith; written = refl; answer = omega (arith, answer_fits (answer.Refused 3)) }
+header_room (Some h) input room s g e = record {
+  consumed = header_fits input h e refl;
   written = refl;
-  answer = let a : length (answer_bytes (read_header (Field tag len) input s).answer) ≤ answer_room = answer_fits (read_header (Field tag len) input s).answer in omega arith;
+  answer = let a : length (answer_bytes (read_header (Some h) input s).answer) ≤ answer_room = answer_fits (read_header (Some h) input s).answer in omega arith;
 }
 
 order_room : (input : List ℕ) (room : ℕ) (s : Sheet) → Fits input room (read_in_order input room s)

@@ -1,12 +1,11 @@
 -- What one reading ensures (SCOPE 5.3), and bytes that are read through field by field (SCOPE 10.2).
-use Rattle.std.specs.Prelude.{ℕ, ◌≤◌, ◌≡◌, List, [], ◌∷◌, length, drop, ℤ}
+use Rattle.std.specs.Prelude.{ℕ, ◌≤◌, ◌≡◌, List, [], ◌∷◌, length, drop}
 use Rattle.wire.specs.Bytes.{over}
 use Rattle.sheet.specs.declared.Sheet.{Sheet}
 use Rattle.sheet.specs.Range.{InRange}
 use Rattle.sheet.specs.declared.Answer.TheVariants.{Accepted}
-use Rattle.sheet.specs.Parts.{whole}
 use Rattle.fields.specs.declared.Reading.{Reading}
-use Rattle.fields.specs.declared.ReadRest.{ReadRest}
+use Rattle.fields.specs.declared.Outcome.{Outcome}
 use Rattle.fields.specs.Field.{read_field}
 use Rattle.answers.specs.Answers.{answer_bytes, answer_room}
 
@@ -15,9 +14,9 @@ pub record FieldRead (input out : List ℕ) (s : Sheet) (r : Reading) (out' : Li
   pub reading : r ≡ read_field input (length out) s
   pub output : out' ≡ over (answer_bytes r.answer) out
 
--- a reading on a sheet whose effects and sums are lent, with them
-abbrev pub whole_reading : ReadRest → List ℤ → List ℤ → Reading
-whole_reading r effects sums = record { answer = r.answer; sheet = whole r.rest effects sums; consumed = r.consumed; written = r.written }
+-- a reading, from its outcome and the sheet after it
+abbrev pub with_sheet : Outcome → Sheet → Reading
+with_sheet r s = record { answer = r.answer; sheet = s; consumed = r.consumed; written = r.written }
 
 -- every field of the bytes is accepted, from a sheet to a sheet (SCOPE 10.2)
 pub data ReadThrough : List ℕ → Sheet → Sheet → Type 0 where

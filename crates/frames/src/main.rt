@@ -2,21 +2,18 @@
 
 #![tactic(auto)]
 
-use dead_sums::DEAD_SUMS;
-use effects::EFFECTS;
+use sheet::Sheet;
 
 // The input buffer holds the largest field, 60,003 bytes.
 fn main(rt: HostRuntime) {
-    let mut effects = [0i16; EFFECTS];
-    let mut sums = [0i64; DEAD_SUMS];
+    let mut sheet = Sheet::fresh(standard::fresh_settings());
     let mut input = io::large_buffer();
     let mut output = io::large_buffer();
     service::serve(
         &rt,
         &mut rt.stdin(),
         &mut rt.stdout(),
-        &mut effects,
-        &mut sums,
+        &mut sheet,
         &mut input,
         &mut output,
     );

@@ -3,19 +3,19 @@
 // Lists of fields, answered on a sheet that is given as its saved bytes, and case names in a file. No call keeps a state. `frames_c_c`
 // exports the calls to programs in C and Rust.
 ghost use Rattle.std.specs.Prelude.{◌≡◌, length};
+ghost use Rattle.sheet.specs.Sheet.{fresh_sheet};
 ghost use Rattle.lists.specs.Lists.{fields_of};
 ghost use Rattle.drawing.specs.Names.{name_place};
-ghost use Rattle.frames_c.specs.Calls.{AnswerDone, RunDone, count_of};
+ghost use Rattle.frames_c.specs.Calls.{Answered, AnswerDone, RunDone};
 
-use dead_sums::DEAD_SUMS;
 use drawing::NamePlace;
-use effects::EFFECTS;
-use saving::Saved;
+use sheet::Sheet;
 
 // The bytes to save into that a run asks for, more than a saved sheet has.
 pub const PLACE_ROOM: usize = 8192;
 
 // The refusal's number, or 0, and how many bytes were written and saved.
+// Stays: numbers, 0 for none, as C reads them.
 #[repr(C)]
 #[derive(Clone, Copy)]
 pub struct Ran {
@@ -31,12 +31,29 @@ pub fn frames_count(input: &[u8]) -> usize
     lists::count(input)
 }
 
-fn saved_count(s: Saved) -> usize
-    ensures { result ≡ count_of s }
+// The sheet that the state gives, after the fields of the input: how many bytes their answers have, or the refusal that is due.
+fn answered(sheet: &mut Sheet, state: &[u8], input: &[u8], output: &mut [u8]) -> Result<usize, u8>
+    requires { sheet.old ≡ fresh_sheet }
+    ensures { Answered state.now input.now output.old result sheet.new output.new }
 {
-    match s {
-        Saved::Written(n) => n,
-        Saved::Refused(_) => 0,
+    let refusal = loading::load(sheet, state);
+    if lists::is_short(input, output.len()) {
+        return Err(14);
+    }
+    if let Some(number) = refusal {
+        return Err(number);
+    }
+    Ok(loading::read_all(sheet, input, output))
+}
+
+// A refused call writes and saves nothing.
+fn refused(refusal: u8) -> Ran
+    ensures { result ≡ record { refusal = refusal; written = 0; saved = 0 } }
+{
+    Ran {
+        refusal,
+        written: 0,
+        saved: 0,
     }
 }
 
@@ -44,24 +61,14 @@ fn saved_count(s: Saved) -> usize
 pub fn frames_answer(state: &[u8], input: &[u8], output: &mut [u8]) -> Ran
     ensures { AnswerDone state.now input.now output.old result output.new }
 {
-    let mut effects = [0i16; EFFECTS];
-    let mut sums = [0i64; DEAD_SUMS];
-    let p = loading::load(&mut effects, &mut sums, state);
-    let short = lists::is_short(input, output.len());
-    let due = refusals::first(short, 14, p.refusal);
-    if due == 0 {
-        let rest = p.rest;
-        let q = loading::read_all(rest, true, &mut effects, &mut sums, input, output);
-        return Ran {
+    let mut sheet = Sheet::fresh(standard::fresh_settings());
+    match answered(&mut sheet, state, input, output) {
+        Ok(written) => Ran {
             refusal: 0,
-            written: q.written,
+            written,
             saved: 0,
-        };
-    }
-    Ran {
-        refusal: due,
-        written: 0,
-        saved: 0,
+        },
+        Err(number) => refused(number),
     }
 }
 
@@ -69,27 +76,17 @@ pub fn frames_answer(state: &[u8], input: &[u8], output: &mut [u8]) -> Ran
 pub fn frames_run(state: &[u8], input: &[u8], output: &mut [u8], saved: &mut [u8]) -> Ran
     ensures { RunDone state.now input.now output.old saved.old result output.new saved.new }
 {
-    let mut effects = [0i16; EFFECTS];
-    let mut sums = [0i64; DEAD_SUMS];
-    let p = loading::load(&mut effects, &mut sums, state);
-    let short = lists::is_short(input, output.len());
-    let due = refusals::first(short, 14, p.refusal);
-    let due = refusals::first(saved.len() < PLACE_ROOM, 14, due);
-    if due == 0 {
-        let rest = p.rest;
-        let q = loading::read_all(rest, true, &mut effects, &mut sums, input, output);
-        let after = q.rest;
-        let s = saving::save(after.with_effects(effects, sums), saved);
-        return Ran {
-            refusal: 0,
-            written: q.written,
-            saved: saved_count(s),
-        };
+    if saved.len() < PLACE_ROOM {
+        return refused(14);
     }
-    Ran {
-        refusal: due,
-        written: 0,
-        saved: 0,
+    let mut sheet = Sheet::fresh(standard::fresh_settings());
+    match answered(&mut sheet, state, input, output) {
+        Ok(written) => Ran {
+            refusal: 0,
+            written,
+            saved: saving::save_in(&sheet, saved).unwrap_or(0),
+        },
+        Err(number) => refused(number),
     }
 }
 

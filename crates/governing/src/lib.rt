@@ -1,193 +1,165 @@
 #![tactic(auto)]
 
-ghost use Rattle.std.specs.Prelude.{◌≡◌, ◌<◌};
+ghost use Rattle.std.specs.Prelude.{◌≡◌, ℕ, ◌<◌, ◌≤◌};
 ghost use Rattle.standard.specs.Range.{SettingsInRange};
 ghost use Rattle.standard.specs.Rows.{row_count, rows_to, by_zone, by_ice};
-ghost use Rattle.standard.specs.Columns.{row_table};
-ghost use Rattle.envelope.specs.Envelope.{best_at, better_by, best_from, best_among, best_of, higher_by, peak_of};
+ghost use Rattle.envelope.specs.Envelope.{best_at, better_by, best_in, best_among, best_of, higher_by, peak_of};
+ghost use Rattle.sums.specs.Sums.{held_at};
+ghost use Rattle.sums.specs.Directions.{held_in};
 ghost use Rattle.terms.specs.Value.{TermsInRange, value_of};
 ghost use Rattle.governing.specs.Ways.{toward_of, Ready, eight_of};
 
-use envelope::{Best, Peak};
-use rows::RowTable;
+use envelope::{Best, Peak, Sign};
 use standard::Settings;
-use terms::Terms;
+use sums::Sums;
+use terms::{Row, Terms};
 
 // The better of the row held and another.
-fn better(b: Best, row: usize, value: i64) -> Best
-    ensures { result ≡ better_by b row value }
+// Stays: an `if`, since of equals the one held is kept; `max_by_key` says that by the order of its arguments alone. So in `higher`.
+fn better(held: Best, other: Best) -> Best
+    ensures { result ≡ better_by held other.row other.value }
 {
-    if b.value < value {
-        Best { row, value }
+    if held.value < other.value {
+        other
     } else {
-        b
+        held
     }
-}
-
-fn first_row(table: &RowTable, s: Settings, row: usize, t: Terms) -> Best
-    requires { (row < row_count) × (table.now ≡ row_table) × TermsInRange t × SettingsInRange s }
-    ensures { result ≡ best_at row (value_of s row t) }
-{
-    Best {
-        row,
-        value: terms::value_of(table, s, row, t),
-    }
-}
-
-fn with_row(b: Best, table: &RowTable, s: Settings, row: usize, t: Terms) -> Best
-    requires { (row < row_count) × (table.now ≡ row_table) × TermsInRange t × SettingsInRange s }
-    ensures { result ≡ better_by b row (value_of s row t) }
-{
-    better(b, row, terms::value_of(table, s, row, t))
-}
-
-// The best of rows 1 to 8. The rows stand as constants, so that the compiler folds the table into the code.
-fn strength(table: &RowTable, s: Settings, t: Terms) -> Best
-    requires { (table.now ≡ row_table) × TermsInRange t × SettingsInRange s }
-    ensures { result ≡ best_from (λ row. value_of s row t) (best_at 1 (value_of s 1 t)) 2 7 }
-{
-    let b1 = first_row(table, s, 1, t);
-    let b2 = with_row(b1, table, s, 2, t);
-    let b3 = with_row(b2, table, s, 3, t);
-    let b4 = with_row(b3, table, s, 4, t);
-    let b5 = with_row(b4, table, s, 5, t);
-    let b6 = with_row(b5, table, s, 6, t);
-    let b7 = with_row(b6, table, s, 7, t);
-    with_row(b7, table, s, 8, t)
-}
-
-// The same with the flood rows of method 1.
-fn strength_flooded(b: Best, table: &RowTable, s: Settings, t: Terms) -> Best
-    requires { (table.now ≡ row_table) × TermsInRange t × SettingsInRange s }
-    ensures { result ≡ best_among (λ row. value_of s row t) b (by_zone s (rows_to 9 10) (rows_to 11 12)) }
-{
-    if s.zone == 1 {
-        let b9 = with_row(b, table, s, 9, t);
-        return with_row(b9, table, s, 10, t);
-    }
-    if s.zone == 2 {
-        let b11 = with_row(b, table, s, 11, t);
-        return with_row(b11, table, s, 12, t);
-    }
-    b
-}
-
-// The best of rows 21 to 30.
-fn allowable(table: &RowTable, s: Settings, t: Terms) -> Best
-    requires { (table.now ≡ row_table) × TermsInRange t × SettingsInRange s }
-    ensures { result ≡ best_from (λ row. value_of s row t) (best_at 21 (value_of s 21 t)) 22 9 }
-{
-    let b21 = first_row(table, s, 21, t);
-    let b22 = with_row(b21, table, s, 22, t);
-    let b23 = with_row(b22, table, s, 23, t);
-    let b24 = with_row(b23, table, s, 24, t);
-    let b25 = with_row(b24, table, s, 25, t);
-    let b26 = with_row(b25, table, s, 26, t);
-    let b27 = with_row(b26, table, s, 27, t);
-    let b28 = with_row(b27, table, s, 28, t);
-    let b29 = with_row(b28, table, s, 29, t);
-    with_row(b29, table, s, 30, t)
-}
-
-// The same with the flood rows of method 2.
-fn allowable_flooded(b: Best, table: &RowTable, s: Settings, t: Terms) -> Best
-    requires { (table.now ≡ row_table) × TermsInRange t × SettingsInRange s }
-    ensures { result ≡ best_among (λ row. value_of s row t) b (by_zone s (rows_to 31 35) (rows_to 36 40)) }
-{
-    if s.zone == 1 {
-        let b31 = with_row(b, table, s, 31, t);
-        let b32 = with_row(b31, table, s, 32, t);
-        let b33 = with_row(b32, table, s, 33, t);
-        let b34 = with_row(b33, table, s, 34, t);
-        return with_row(b34, table, s, 35, t);
-    }
-    if s.zone == 2 {
-        let b36 = with_row(b, table, s, 36, t);
-        let b37 = with_row(b36, table, s, 37, t);
-        let b38 = with_row(b37, table, s, 38, t);
-        let b39 = with_row(b38, table, s, 39, t);
-        return with_row(b39, table, s, 40, t);
-    }
-    b
-}
-
-// The same with the ice rows of method 1.
-fn strength_iced(b: Best, table: &RowTable, s: Settings, t: Terms) -> Best
-    requires { (table.now ≡ row_table) × TermsInRange t × SettingsInRange s }
-    ensures { result ≡ best_among (λ row. value_of s row t) b (by_ice s (rows_to 13 15)) }
-{
-    if s.ice == 1 {
-        let b13 = with_row(b, table, s, 13, t);
-        let b14 = with_row(b13, table, s, 14, t);
-        return with_row(b14, table, s, 15, t);
-    }
-    b
-}
-
-// The same with the ice rows of method 2.
-fn allowable_iced(b: Best, table: &RowTable, s: Settings, t: Terms) -> Best
-    requires { (table.now ≡ row_table) × TermsInRange t × SettingsInRange s }
-    ensures { result ≡ best_among (λ row. value_of s row t) b (by_ice s (rows_to 41 43)) }
-{
-    if s.ice == 1 {
-        let b41 = with_row(b, table, s, 41, t);
-        let b42 = with_row(b41, table, s, 42, t);
-        return with_row(b42, table, s, 43, t);
-    }
-    b
-}
-
-// The row that governs.
-fn governing(s: Settings, t: Terms) -> Best
-    requires { TermsInRange t × SettingsInRange s }
-    ensures { result ≡ best_of s (λ row. value_of s row t) }
-{
-    let table = rows::row_table();
-    if s.method == 1 {
-        let b = strength(&table, s, t);
-        let flooded = strength_flooded(b, &table, s, t);
-        return strength_iced(flooded, &table, s, t);
-    }
-    if s.method == 2 {
-        let b = allowable(&table, s, t);
-        let flooded = allowable_flooded(b, &table, s, t);
-        return allowable_iced(flooded, &table, s, t);
-    }
-    first_row(&table, s, 0, t)
-}
-
-// The row that governs the effects, at 0 over 1, or the effects negated, at 1 over 0.
-pub fn toward(s: Settings, sums: &[u64], over: usize, under: usize) -> Best
-    requires { Ready sums.now × (over < 2) × (under < 2) × SettingsInRange s }
-    ensures { result ≡ toward_of s sums.now over under }
-{
-    governing(s, terms::terms_of(sums, over, under))
 }
 
 // The higher of the pattern held and another.
-fn higher(q: Peak, pattern: usize, best: Best) -> Peak
-    ensures { result ≡ higher_by q pattern best }
+fn higher(held: Peak, pattern: usize, best: Best) -> Peak
+    ensures { result ≡ higher_by held pattern best }
 {
-    let held = q.best;
-    if held.value < best.value {
+    if held.best.value < best.value {
         Peak { pattern, best }
     } else {
-        q
+        held
     }
 }
 
-// The pattern with the greatest numerator, from the sums of four directions: pattern 7 - i is the opposite of pattern i.
-pub fn highest<'a>(s: Settings, s0: &'a [u64], s1: &'a [u64], s2: &'a [u64], s3: &'a [u64]) -> Peak
-    requires { Ready s0.now × Ready s1.now × Ready s2.now × Ready s3.now × SettingsInRange s }
-    ensures { result ≡ peak_of (eight_of s s0.now s1.now s2.now s3.now) 7 }
+// What the open rows are compared by: settings and terms in range.
+#[derive(Clone, Copy)]
+struct Look {
+    settings: Settings,
+    terms: Terms,
+    ghost settings_in_range: { SettingsInRange settings },
+    ghost terms_in_range: { TermsInRange terms },
+}
+
+impl Look {
+    // A row with its value.
+    fn at(self, number: usize) -> Best
+        requires { number < row_count }
+        ensures { result ≡ best_at number (value_of self.settings number self.terms) }
+    {
+        let row = Row {
+            settings: self.settings,
+            number,
+        };
+        Best {
+            row: number,
+            value: row.value_of(self.terms),
+        }
+    }
+
+    // The best of the row held and those from one number to another. The numbers are const parameters, so that the compiler folds the
+    // table into the code.
+    fn best_in<const FIRST: usize, const LAST: usize>(self, held: Best) -> Best
+        requires { (FIRST ≤ LAST) × (LAST < row_count) }
+        ensures { result ≡ best_in (λ row. value_of self.settings row self.terms) held (rows_to FIRST LAST) }
+    {
+        let mut best = held;
+        for row in FIRST..LAST + 1 {
+            best = better(best, self.at(row));
+        }
+        best
+    }
+
+    // The same with some rows in zone 1, others in zone 2.
+    fn with_flood<const ONE: usize, const ONE_LAST: usize, const TWO: usize, const TWO_LAST: usize>(
+        self,
+        held: Best,
+    ) -> Best
+        requires one { (ONE ≤ ONE_LAST) × (ONE_LAST < row_count) }
+        requires two { (TWO ≤ TWO_LAST) × (TWO_LAST < row_count) }
+        ensures { result ≡ best_among (λ row. value_of self.settings row self.terms) held (by_zone self.settings (rows_to ONE ONE_LAST) (rows_to TWO TWO_LAST)) }
+    {
+        match self.settings.zone {
+            1 => self.best_in::<ONE, ONE_LAST>(held),
+            2 => self.best_in::<TWO, TWO_LAST>(held),
+            _ => held,
+        }
+    }
+
+    // The same with the ice rows, where they are switched on.
+    fn with_ice<const FIRST: usize, const LAST: usize>(self, held: Best) -> Best
+        requires { (FIRST ≤ LAST) × (LAST < row_count) }
+        ensures { result ≡ best_among (λ row. value_of self.settings row self.terms) held (by_ice self.settings (rows_to FIRST LAST)) }
+    {
+        if self.settings.ice == 1 {
+            self.best_in::<FIRST, LAST>(held)
+        } else {
+            held
+        }
+    }
+
+    // The best row of method 1.
+    // Stays: a function for each method, since in one a utilisation takes 10 to 30 instructions more.
+    fn strength(self) -> Best
+        requires { self.settings.method ≡ 1 }
+        ensures { result ≡ best_of self.settings (λ row. value_of self.settings row self.terms) }
+    {
+        let plain = self.best_in::<2, 8>(self.at(1));
+        let flooded = self.with_flood::<9, 10, 11, 12>(plain);
+        self.with_ice::<13, 15>(flooded)
+    }
+
+    // The best row of method 2.
+    fn allowable(self) -> Best
+        requires { self.settings.method ≡ 2 }
+        ensures { result ≡ best_of self.settings (λ row. value_of self.settings row self.terms) }
+    {
+        let plain = self.best_in::<22, 30>(self.at(21));
+        let flooded = self.with_flood::<31, 35, 36, 40>(plain);
+        self.with_ice::<41, 43>(flooded)
+    }
+
+    // The row that governs.
+    fn governing(self) -> Best
+        ensures { result ≡ best_of self.settings (λ row. value_of self.settings row self.terms) }
+    {
+        if self.settings.method == 1 {
+            self.strength()
+        } else {
+            self.allowable()
+        }
+    }
+}
+
+// The row that governs the effects with a sign.
+pub fn toward(settings: Settings, sums: &Sums, sign: Sign) -> Best
+    requires { Ready (held_at sums.now.by_kind) × SettingsInRange settings }
+    ensures { result ≡ toward_of settings (held_at sums.now.by_kind) sign }
 {
-    let best = toward(s, s0, 0, 1);
-    let q0 = Peak { pattern: 0, best };
-    let q1 = higher(q0, 1, toward(s, s1, 0, 1));
-    let q2 = higher(q1, 2, toward(s, s2, 0, 1));
-    let q3 = higher(q2, 3, toward(s, s3, 0, 1));
-    let q4 = higher(q3, 4, toward(s, s3, 1, 0));
-    let q5 = higher(q4, 5, toward(s, s2, 1, 0));
-    let q6 = higher(q5, 6, toward(s, s1, 1, 0));
-    higher(q6, 7, toward(s, s0, 1, 0))
+    let look = Look {
+        settings,
+        terms: terms::terms_of(sums, sign),
+    };
+    look.governing()
+}
+
+// The pattern with the greatest numerator, from the sums of four directions.
+pub fn highest(settings: Settings, sums: &[Sums; 4]) -> Peak
+    requires { ((d : ℕ) → d < 4 → Ready (held_in sums.now d)) × SettingsInRange settings }
+    ensures { result ≡ peak_of (eight_of settings (held_in sums.now)) 7 }
+{
+    let mut peak = Peak {
+        pattern: 0,
+        best: toward(settings, &sums[0], Sign::Plus),
+    };
+    for pattern in 1..8 {
+        let (direction, sign) = directions::way_of(pattern);
+        peak = higher(peak, pattern, toward(settings, &sums[direction], sign));
+    }
+    peak
 }

@@ -1,8 +1,7 @@
 -- SCOPE 5.1 and 7: a field's header, the refusals 3, 1 and 2, and how much a reading consumes.
-use Rattle.std.specs.Prelude.{ℕ, ◌+◌, ◌-◌, List, [], ◌∷◌, Bool, true, false, cond, ◌&&◌, ◌||◌, length, get_or, take, drop, ltb, leb, eqb}
+use Rattle.std.specs.Prelude.{ℕ, ◌+◌, ◌-◌, List, [], ◌∷◌, Bool, true, false, cond, ◌&&◌, ◌||◌, Option, Some, None, length, get_or, take, drop, ltb, leb, eqb}
 use Rattle.wire.specs.Bytes.{byte_at, word_at}
 use Rattle.headers.specs.declared.Header.{Header}
-use Rattle.headers.specs.declared.Header.TheVariants.{Field, Short}
 
 -- the greatest length of a body (SCOPE 7.1)
 abbrev pub longest_body : ℕ
@@ -22,13 +21,16 @@ body_of input = take (length_in input) (drop 3 input)
 abbrev pub is_cut : List ℕ → Bool
 is_cut input = ltb (length input) 3 || (ltb longest_body (length_in input) || ltb (length input - 3) (length_in input))
 
--- one tag byte, a two-byte length and a body that is there; 3 is due where header or body goes past the end, or the length is
+abbrev pub header : (tag len : ℕ) → Header
+header tag len = record { tag = tag; len = len }
+
+-- one tag byte, a two-byte length and a body that is there; none, and 3 is due, where header or body goes past the end, or the length is
 -- above 60,000 (SCOPE 5.1, 7.1)
-unfoldable pub header_of : List ℕ → Header
+unfoldable pub header_of : List ℕ → Option Header
 header_of s =
-    cond (ltb (length s) 3) Short
-    (cond (ltb longest_body (word_at s 1)) Short
-    (cond (ltb (length s - 3) (word_at s 1)) Short (Field (byte_at s 0) (word_at s 1))))
+    cond (ltb (length s) 3) None
+    (cond (ltb longest_body (word_at s 1)) None
+    (cond (ltb (length s - 3) (word_at s 1)) None (Some (header (byte_at s 0) (word_at s 1)))))
 
 -- the length of a body by its tag, from tag 00, which is none (SCOPE 5.2)
 unfoldable pub length_of : ℕ → ℕ
@@ -52,9 +54,9 @@ due_header tag len =
     (cond (eqb tag 0) 1 (cond (ltb last_tag tag) 1 (cond (eqb len (length_of tag)) 0 2)))
 
 -- 3 consumes all that is left, others the field (SCOPE 5.3, 7.3)
-abbrev pub consumed_of : Header → List ℕ → ℕ
-consumed_of Short input = length input
-consumed_of (Field tag len) input = 3 + len
+abbrev pub consumed_of : Option Header → List ℕ → ℕ
+consumed_of None input = length input
+consumed_of (Some h) input = 3 + h.len
 
 abbrev pub consumed_by : List ℕ → ℕ
 consumed_by input = consumed_of (header_of input) input

@@ -2,8 +2,11 @@
 
 #![tactic(auto)]
 
-ghost use Rattle.std.specs.Prelude.{◌≡◌};
+ghost use Rattle.std.specs.Prelude.{◌≡◌, ◌+◌, ◌≤◌, length, IfSome};
+ghost use Rattle.refusals.specs.Numbers.{number_of};
 ghost use Rattle.headers.specs.Headers.{header_of, length_of, name_length, due_header, consumed_by, ready_of};
+
+use refusals::{Refusal, refuse_where};
 
 const LONGEST_BODY: usize = 60000;
 
@@ -12,30 +15,27 @@ const LAST_TAG: u8 = 9;
 // The tag of a case name.
 pub const NAME_TAG: u8 = 0x60;
 
-// A whole field at the front of the input, or one that goes past its end.
-#[derive(Clone, Copy)]
-pub enum Header {
-    Field { tag: u8, len: usize },
-    Short,
+// What a whole field begins with. Its body follows.
+#[derive(Clone, Copy, PartialEq, Eq, Debug)]
+pub struct Header {
+    pub tag: u8,
+    pub len: usize,
 }
 
+// The header of the field at the front of the input, none where the field goes past the end.
 #[tactic(auto, unfolding(crate::specs::Headers::header_of))]
-pub fn header_of(input: &[u8]) -> Header
-    ensures { result ≡ header_of input.now }
+pub fn header_of(input: &[u8]) -> Option<Header>
+    ensures header { result ≡ header_of input.now }
+    ensures fits { IfSome result (λ h. 3 + h.len ≤ length input.now) }
 {
-    let n = input.len();
-    if n < 3 {
-        return Header::Short;
+    let [tag, high, low, body @ ..] = input else {
+        return None;
+    };
+    let len = usize::from(u16::from_be_bytes([*high, *low]));
+    if LONGEST_BODY < len || body.len() < len {
+        return None;
     }
-    let tag = wire::byte(input, 0);
-    let len = wire::word(input, 1) as usize;
-    if LONGEST_BODY < len {
-        return Header::Short;
-    }
-    if n - 3 < len {
-        return Header::Short;
-    }
-    Header::Field { tag, len }
+    Some(Header { tag: *tag, len })
 }
 
 // The length of a body by its tag.
@@ -61,28 +61,26 @@ fn right_length(tag: u8) -> usize
 pub fn is_name_length(len: usize) -> bool
     ensures { result ≡ name_length len }
 {
-    2 <= len && len <= 25
+    (2..=25).contains(&len)
 }
 
-// The refusal that tag and length call for: 1, 2 or none.
+// Refuses a tag that there is not, and then a length that is not the tag's.
 #[tactic(auto, unfolding(crate::specs::Headers::due_header))]
-pub fn due_header(tag: u8, len: usize) -> u8
-    ensures { result ≡ due_header tag len }
+pub fn check_header(tag: u8, len: usize) -> Result<(), Refusal>
+    ensures { number_of result ≡ due_header tag len }
 {
     if tag == NAME_TAG {
-        return refusals::first(is_name_length(len), 0, 2);
+        return refuse_where(!is_name_length(len), Refusal::WrongLength);
     }
-    let d = refusals::first(len == right_length(tag), 0, 2);
-    let d = refusals::first(LAST_TAG < tag, 1, d);
-    refusals::first(tag == 0, 1, d)
+    refuse_where(tag == 0 || LAST_TAG < tag, Refusal::UnknownTag)?;
+    refuse_where(len != right_length(tag), Refusal::WrongLength)
 }
 
 // How many bytes a reading consumes: the field, or all that is left where it is cut.
 pub fn consumed_by(input: &[u8]) -> usize
     ensures { result ≡ consumed_by input.now }
 {
-    let h = header_of(input);
-    let Header::Field { tag: _, len } = h else {
+    let Some(Header { tag: _, len }) = header_of(input) else {
         return input.len();
     };
     3 + len
@@ -93,15 +91,9 @@ pub fn consumed_by(input: &[u8]) -> usize
 pub fn is_ready(input: &[u8]) -> bool
     ensures { result ≡ ready_of input.now }
 {
-    if input.len() < 3 {
+    let [_, high, low, body @ ..] = input else {
         return false;
-    }
-    let len = wire::word(input, 1) as usize;
-    if LONGEST_BODY < len {
-        return true;
-    }
-    if input.len() - 3 < len {
-        return false;
-    }
-    true
+    };
+    let len = usize::from(u16::from_be_bytes([*high, *low]));
+    LONGEST_BODY < len || len <= body.len()
 }

@@ -15,7 +15,6 @@ use Rattle.refusals.specs.Refusals.{due_empty_at}
 use Rattle.refusals.proofs.Fits.{empty_range}
 use Rattle.sheet.specs.declared.Sheet.{Sheet}
 use Rattle.sheet.specs.Sheet.{kind_at, effect_at, capacity_at, with_kind}
-use Rattle.sheet.specs.Parts.{rest_of, whole}
 use Rattle.sheet.specs.Range.{InRange}
 use Rattle.sheet.proofs.Kept.{fresh_kept}
 use Rattle.sheet.proofs.Access.{well_formed, kind_filled, kind_other, effect_kept, kind_leaves_capacity, kind_leaves_settings}
@@ -36,7 +35,7 @@ sums_true {s} h = record { dead = λ t j a b. at 0 (omega arith) t j a b; fluid 
     at : (which : ℕ) → which < 2 → (t j : ℕ) → t < station_count → j < component_count → sum_in s.sums which t j ≡ sum_where case_count (of_dead_kind s.kinds which) (λ k. effect_at s k t j)
     at which c t j a b = ap (λ (l : List ℤ). sum_in l which t j) h.sums_true ∙ sum_is (of_dead_kind s.kinds) s.effects which t j c a b
 
-saved_alike : (s : Sheet) (sums : List ℤ) → saved_bytes (whole (rest_of s) s.effects sums) ≡ saved_bytes s
+saved_alike : (s : Sheet) (sums : List ℤ) → saved_bytes (record s { sums = sums }) ≡ saved_bytes s
 unfolding saved_bytes effect_at capacity_at
 saved_alike s sums = refl
 

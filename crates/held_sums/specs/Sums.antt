@@ -8,7 +8,6 @@ use Rattle.dead_sums.specs.DeadSums.{sum_in}
 use Rattle.sheet.specs.declared.Sheet.{Sheet}
 use Rattle.sheet.specs.declared.Answer.TheVariants as answer
 use Rattle.sheet.specs.Sheet.{fresh_sheet, kind_at, effect_at, capacity_at, with_kind}
-use Rattle.sheet.specs.Parts.{rest_of, whole}
 use Rattle.sheet.specs.Range.{InRange}
 use Rattle.saved_fields.specs.Saved.{saved_bytes}
 use Rattle.demands.specs.Readings.{Made, ReadOn, Readings, worked_out, Restores}
@@ -32,7 +31,7 @@ pub record SumsKeptTrue : Type 0 where
   pub refused : (ms : List Made) (s : Sheet) → Readings fresh_sheet ms s → (m : Made) (n : ℕ) → ReadOn s m → m.result.answer ≡ answer.Refused n →
       m.result.sheet.sums ≡ s.sums
   -- saved bytes don't depend on them (SCOPE 8.1), and what saved bytes restore has them true
-  pub unsaved : (s : Sheet) (sums : List ℤ) → saved_bytes (whole (rest_of s) s.effects sums) ≡ saved_bytes s
+  pub unsaved : (s : Sheet) (sums : List ℤ) → saved_bytes (record s { sums = sums }) ≡ saved_bytes s
   pub restored : (ms : List Made) (s : Sheet) → Readings fresh_sheet ms s → (s₀ s₁ : Sheet) → Restores (saved_bytes s) s₀ s₁ → SumsTrue s₁
 
 -- a field of tag 04, whatever follows it (SCOPE 5.2)

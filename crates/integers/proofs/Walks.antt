@@ -5,14 +5,14 @@ use native.Mathlib.Nat as NatL
 use native.Mathlib.Decide.{dec_lt}
 use native.Mathlib.Omega.{arith}
 use mathlib.Core.Bool.{Bool, true, false, false≢true}
-use mathlib.Core.Path.{◌≡◌, refl, sym, ap, ◌∙◌}
+use mathlib.Core.Path.{◌≡◌, refl, sym, ap, ◌∙◌, subst}
 use borrow.Author.Tests.{eqb-true, le-leb, lt-leb}
 use lib.Bits.{bit_and, and_step, and_self}
 use lib.Count.{count_trailing_zeros, under}
 use lib.Dec.{eqb}
 use lib.Pow.{pow_mono, shr-shr}
 use Rattle.integers.specs.Sums.{when, sum, mask_of}
-use Rattle.integers.specs.Sets.{has, Lowest, WithoutLowest, onwards}
+use Rattle.integers.specs.Sets.{has, Lowest, onwards}
 use Rattle.integers.proofs.Masks.{mask_below, bit_in_mask}
 use Rattle.integers.proofs.Sums.{sum_at_lem}
 
@@ -75,9 +75,6 @@ without_lowest_lem (suc t) n l = rw (and_step n (n - 1), half) (omega (arith, ev
     half : bit_and (n / 2) ((n - 1) / 2) ≡ bit_and (n / 2) (n / 2 - 1)
     half = ap (bit_and (n / 2)) {x = (n - 1) / 2} {y = n / 2 - 1} (omega (arith, even, some))
 
-pub taken_away : (set t rest : ℕ) → Lowest set t → WithoutLowest set rest → set - 2 ^ t ≡ rest
-taken_away set t rest l w = omega (arith, w.less t l)
-
 -- ---- a number is the set of its bits
 mask_low : (n : ℕ) (p : ℕ → Bool) → mask_of (suc n) p ≡ when (p 0) 1 + 2 * mask_of n (λ k. p (suc k))
 unfolding mask_of sum
@@ -137,6 +134,13 @@ pub record Met {A : Type 0} (p : ℕ → Bool) (n : ℕ) (F : ℕ → A) (rest t
   pub held : 2 ^ t ≤ rest
   pub gathered : a ≡ F t
   pub after : (b : A) → b ≡ F (suc t) → Walk p n F (rest - 2 ^ t) b
+
+-- the same where the lowest member is taken away, and `next` is what is left
+pub record Turn {A : Type 0} (p : ℕ → Bool) (n : ℕ) (F : ℕ → A) (t next : ℕ) (a : A) : Type 0 where
+  pub inside : t < n
+  pub member : p t ≡ true
+  pub gathered : a ≡ F t
+  pub after : (b : A) → b ≡ F (suc t) → Walk p n F next b
 
 pub walk_from : {A : Type 0} (n m : ℕ) (F : ℕ → A) (a : A) → m < 2 ^ n → a ≡ F 0 → Walk (has m) n F m a
 walk_from n m F a h e =
@@ -217,3 +221,13 @@ module _ {A : Type 0} (p : ℕ → Bool) (n : ℕ) (F : ℕ → A) (skips : (k :
           gathered = w.gathered ∙ sym (skip_to w.upto t from (omega (arith, below)) not_between);
           after = λ b e. record { upto = suc t; inside = below; left = omega (arith, split); gathered = e };
         }
+
+  pub walk_turn : (rest t next : ℕ) (a : A) → Walk p n F rest a → Lowest rest t → next + 2 ^ t ≡ rest → Turn p n F t next a
+  walk_turn rest t next a w low left =
+      let m : Met p n F rest t a = walk_meets rest t a w low in
+      record {
+        inside = m.inside;
+        member = m.member;
+        gathered = m.gathered;
+        after = λ b e. let r : rest - 2 ^ t ≡ next = omega arith in subst (λ (x : ℕ). Walk p n F x b) r (m.after b e);
+      }

@@ -1,47 +1,32 @@
--- The fields of a list counted one by one, and the room for the answers to them.
+-- The fields of a list counted one by one.
 -- Assumes nothing.
-use Prim.Native.Nat.{ℕ, suc, ◌+◌, ◌*◌, ◌/◌, ◌≤◌, ◌<◌}
-use mathlib.Core.Path.{◌≡◌, sym, ap, ◌∙◌}
-use mathlib.Core.List.{List}
-use mathlib.Core.Logic.{⊎_elim}
+use Prim.Native.Nat.{ℕ, suc, ◌+◌, ◌≤◌, ◌<◌}
+use mathlib.Core.Path.{◌≡◌, refl, ap}
+use mathlib.Core.List.{List, [], ◌∷◌}
 use native.Mathlib.Omega.{arith}
-use borrow.Author.Tests.{le-ltb, lt-ltb}
-use lib.Dec.{ltb}
-use lib.ListN.{length, drop}
-use Rattle.wire.proofs.Cases.{lt_or_ge}
-use Rattle.answers.specs.Answers.{answer_room}
+use lib.ListN.{length, drop, length-drop}
 use Rattle.headers.specs.Headers.{consumed_by}
-use Rattle.lists.specs.Lists.{fields_of}
-use Rattle.lists.proofs.Left.{Left, left_all, left_none, left_next}
+use Rattle.headers.proofs.Whole.{consumed_within, consumed_some}
+use Rattle.lists.specs.Lists.{fields_from, fields_of}
+use Rattle.lists.proofs.Left.{no_bytes, first_field}
 
--- a field counted, and those that are left
-pub record Counted (input : List ℕ) (i n : ℕ) : Type 0 where
-  pub fields : List (List ℕ)
-  pub left : Left input i fields
-  pub count : n + length fields ≡ length (fields_of input)
-  -- each field has a byte
-  pub most : n ≤ i
+-- n fields are counted, and those of the bytes left are all the others; each field has a byte
+pub record Counted (input left : List ℕ) (n : ℕ) : Type 0 where
+  pub count : n + length (fields_of left) ≡ length (fields_of input)
+  pub most : n + length left ≤ length input
 
-pub counted_start : (input : List ℕ) → Counted input 0 0
-counted_start input = record { fields = fields_of input; left = left_all input; count = omega arith; most = omega arith }
-
-pub counted_next : {input : List ℕ} {i n : ℕ} → Counted input i n → i < length input → Counted input (i + consumed_by (drop i input)) (n + 1)
-counted_next {input} {i} h g =
-    let x = left_next h.left g in
-    let e : length h.fields ≡ suc (length x.rest) = ap length x.split in
-    let f = x.further in
+pub counted_next : {input left : List ℕ} {n : ℕ} → Counted input left n → 0 < length left → Counted input (drop (consumed_by left) left) (n + 1)
+counted_next {left = left} h g =
+    let e : length (fields_of left) ≡ suc (length (fields_of (drop (consumed_by left) left))) = ap length (first_field left g) in
+    let f = consumed_some left g in
+    let w = consumed_within left in
+    let l = length-drop (consumed_by left) left in
     let c = h.count in
     let m = h.most in
-    record { fields = x.rest; left = x.later; count = omega arith; most = omega arith }
+    record { count = omega arith; most = omega arith }
 
-pub counted_end : {input : List ℕ} {i n : ℕ} → Counted input i n → length input ≤ i → n ≡ length (fields_of input)
-counted_end h g =
-    let e : length h.fields ≡ 0 = ap length (left_none h.left g) in
+pub counted_end : {input left : List ℕ} {n : ℕ} → Counted input left n → length left ≡ 0 → n ≡ length (fields_of input)
+counted_end {left = left} h g =
+    let e : length (fields_of left) ≡ 0 = ap length (no_bytes left g) in
     let c = h.count in
     omega arith
-
--- the test by a quotient is the test by a product
-pub short_is : (room n : ℕ) → ltb (room / answer_room) n ≡ ltb room (answer_room * n)
-short_is room n =
-    ⊎_elim (λ l. lt-ltb (room / answer_room) n (omega arith) ∙ sym (lt-ltb room (answer_room * n) l))
-    (λ g. le-ltb (room / answer_room) n (omega arith) ∙ sym (le-ltb room (answer_room * n) g)) (lt_or_ge room (answer_room * n))

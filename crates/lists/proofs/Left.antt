@@ -31,6 +31,12 @@ unfolding fields_from
 no_fields zero = refl
 no_fields (suc n) = refl
 
+-- no bytes have no fields
+pub no_bytes : (w : List ℕ) → length w ≡ 0 → fields_of w ≡ []
+unfolding fields_from
+no_bytes [] h = refl
+no_bytes (b ∷ bs) h = absurd (omega arith)
+
 -- the end of the input leaves no field
 pub left_none : {input : List ℕ} {i : ℕ} {fs : List (List ℕ)} → Left input i fs → length input ≤ i → fs ≡ []
 left_none {input} {i} h e = h.fields ∙ (ap (fields_from h.n) (drop_of_length-le input e) ∙ no_fields h.n)

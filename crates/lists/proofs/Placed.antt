@@ -18,10 +18,6 @@ use Rattle.fields.specs.Readings.{FieldRead}
 use Rattle.fields.proofs.Consumed.{same_with_room, read_consumed, read_written}
 use Rattle.answers.proofs.Room.{answer_fits}
 
--- a part that starts within a list ends where the list does
-pub part_long : (w : List ℕ) (i : ℕ) → i ≤ length w → i + length (take (length w - i) (drop i w)) ≡ length w
-part_long w i h = rw (part_from w i, length-drop) (omega arith)
-
 -- bytes put over the front of the part from place i on
 put_part : (o w : List ℕ) (i : ℕ) → i + length w ≤ length o → put_mid i (length o - i) o (over w (take (length o - i) (drop i o))) ≡ sets o i w
 unfolding over
@@ -38,15 +34,12 @@ pub record ReadAt (f : List ℕ) (s : Sheet) (to : ℕ) (o : List ℕ) (r : Read
   pub written : r.written ≡ length (answer_bytes (read_field f answer_room s).answer)
   pub output : o' ≡ sets o to (answer_bytes (read_field f answer_room s).answer)
 
-pub read_at : (input output : List ℕ) (at to : ℕ) (s : Sheet) {r : Reading} {part : List ℕ} → to + answer_room ≤ length output →
-    FieldRead (take (length input - at) (drop at input)) (take (length output - to) (drop to output)) s r part →
-    ReadAt (drop at input) s to output r (put_mid to (length output - to) output part)
-read_at input output at to s {r} h f =
-    let field = drop at input in
+pub read_put : (field output : List ℕ) (to : ℕ) (s : Sheet) {r : Reading} {part : List ℕ} → to + answer_room ≤ length output →
+    FieldRead field (take (length output - to) (drop to output)) s r part → ReadAt field s to output r (put_mid to (length output - to) output part)
+read_put field output to s {r} h f =
     let place = take (length output - to) (drop to output) in
     let g : answer_room ≤ length place = rw (part_from output to, length-drop) (omega arith) in
-    let e : r ≡ read_field field answer_room s =
-    f.reading ∙ (ap (λ (w : List ℕ). read_field w (length place) s) (part_from input at) ∙ same_with_room field s (length place) g) in
+    let e : r ≡ read_field field answer_room s = f.reading ∙ same_with_room field s (length place) g in
     let a : r.answer ≡ (read_field field answer_room s).answer = ap (λ (x : Reading). x.answer) e in
     let l = answer_fits (read_field field answer_room s).answer in
     record {
@@ -56,3 +49,9 @@ read_at input output at to s {r} h f =
       written = ap (λ (x : Reading). x.written) e ∙ read_written field s;
       output = rw (f.output, a) (put_part output (answer_bytes (read_field field answer_room s).answer) to (omega arith));
     }
+
+-- the same for the field at a place of the input
+pub read_at : (input output : List ℕ) (at to : ℕ) (s : Sheet) {r : Reading} {part : List ℕ} → to + answer_room ≤ length output →
+    FieldRead (take (length input - at) (drop at input)) (take (length output - to) (drop to output)) s r part →
+    ReadAt (drop at input) s to output r (put_mid to (length output - to) output part)
+read_at input output at to s h f = read_put (drop at input) output to s h (rw part_from at f)

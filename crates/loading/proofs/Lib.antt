@@ -1,3 +1,2 @@
-pub mod Steps
-pub mod Loop
-pub mod Loaded
+pub mod Lists
+pub mod States

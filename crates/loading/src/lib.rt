@@ -1,105 +1,59 @@
 #![tactic(auto)]
 
 // Reads lists of fields one after the other, and a sheet from its saved bytes.
-ghost use Rattle.std.specs.Prelude.{◌≡◌, true, false, ◌+◌, ◌<◌, length};
-ghost use Rattle.effects.specs.Effects.{zeros, effect_count};
-ghost use Rattle.dead_sums.specs.DeadSums.{dead_sum_count};
-ghost use Rattle.sheet.specs.Parts.{whole};
+ghost use Rattle.std.specs.Prelude.{◌≡◌, ◌*◌, ◌≤◌, length};
+ghost use Rattle.wire.specs.Bytes.{over};
+ghost use Rattle.answers.specs.Answers.{answer_room};
 ghost use Rattle.sheet.specs.Range.{InRange};
-ghost use Rattle.lists.specs.Lists.{fields_of};
-ghost use Rattle.loading.specs.Loaded.{refusal_of, loaded, due_state};
-ghost use Rattle.loading.specs.Loop.{starting, advanced, stepped_all, state_of, Room, Reached, Stepped};
+ghost use Rattle.lists.specs.Lists.{fields_of, sheet_after, answers_to, bytes_of};
+ghost use Rattle.loading.specs.Loaded.{refusal_of, first_refusal};
 
 use answers::ANSWER_ROOM;
-use dead_sums::DeadSums;
-use effects::Effects;
-use sheet::{Answer, Rest};
+use sheet::{Answer, Sheet};
 
-// How far a list of fields is read: the sheet apart from its effects and sums, the first refusal, and the bytes consumed and written.
-#[derive(Clone, Copy)]
-pub struct Progress {
-    pub rest: Rest,
-    pub refusal: u8,
-    pub consumed: usize,
-    pub written: usize,
-}
-
-// The refusal of a field that was to be accepted, or 0.
-fn refusal_of(answer: Answer) -> u8
+// The refusal of a field that was to be accepted.
+fn refusal_of(answer: Answer) -> Option<u8>
     ensures { result ≡ refusal_of answer }
 {
     match answer {
-        Answer::Accepted => 0,
-        Answer::Refused(n) => n,
-        Answer::Extremes(_) => 1,
-        Answer::Utilisation(_) => 1,
+        Answer::Accepted => None,
+        Answer::Refused(n) => Some(n),
+        Answer::Extremes(_) | Answer::Utilisation(_) => Some(1),
     }
 }
 
-fn advanced(keep: bool, to: usize, n: usize) -> usize
-    requires { to + n < 18446744073709551616 }
-    ensures { result ≡ advanced keep to n }
+// Reads the fields of the input, one after the other, and writes their answers over the front of the output: how many bytes they are.
+pub fn read_all(sheet: &mut Sheet, input: &[u8], output: &mut [u8]) -> usize
+    requires in_range { InRange sheet.old }
+    requires room { answer_room * length (fields_of input.now) ≤ length output.old }
+    ensures sheet { sheet.new ≡ sheet_after (fields_of input.now) sheet.old }
+    ensures written { result ≡ length (bytes_of (answers_to (fields_of input.now) sheet.old)) }
+    ensures output { output.new ≡ over (bytes_of (answers_to (fields_of input.now) sheet.old)) output.old }
 {
-    if keep { to + n } else { to }
-}
-
-// One field more. Its answer is written after those before it, or over the one before it.
-fn step(
-    p: Progress,
-    keep: bool,
-    effects: &mut Effects,
-    sums: &mut DeadSums,
-    input: &[u8],
-    output: &mut [u8],
-) -> Progress
-    requires { Reached p effects.old sums.old input.now output.old }
-    ensures { Stepped p keep effects.old sums.old input.now output.old result effects.new sums.new output.new }
-{
-    let rest = p.rest;
-    let at = p.consumed;
-    let to = p.written;
-    let r = fields::read_in(rest, effects, sums, &input[at..], &mut output[to..]);
-    let next = r.rest;
-    let a = r.answer;
-    Progress {
-        rest: next,
-        refusal: refusals::first(p.refusal == 0, refusal_of(a), p.refusal),
-        consumed: at + r.consumed,
-        written: advanced(keep, to, r.written),
+    let mut left = input;
+    let mut written = 0;
+    while !left.is_empty() {
+        let r = fields::read_in(sheet, left, &mut output[written..]);
+        left = &left[r.consumed..];
+        written += r.written;
     }
+    written
 }
 
-// The fields of the input, one after the other.
-pub fn read_all(
-    rest: Rest,
-    keep: bool,
-    effects: &mut Effects,
-    sums: &mut DeadSums,
-    input: &[u8],
-    output: &mut [u8],
-) -> Progress
-    requires { InRange (whole rest effects.old sums.old) × Room keep 0 (length (fields_of input.now)) (length output.old) }
-    ensures { state_of result effects.new sums.new output.new ≡ stepped_all keep (starting (whole rest effects.old sums.old) output.old) (fields_of input.now) }
+// Reads the fields of a state, one after the other: the first refusal, if there is one. The answers are not kept.
+pub fn load(sheet: &mut Sheet, state: &[u8]) -> Option<u8>
+    requires { InRange sheet.old }
+    ensures sheet { sheet.new ≡ sheet_after (fields_of state.now) sheet.old }
+    ensures refusal { result ≡ first_refusal (answers_to (fields_of state.now) sheet.old) }
+    ensures in_range { InRange sheet.new }
 {
-    let mut p = Progress {
-        rest,
-        refusal: 0,
-        consumed: 0,
-        written: 0,
-    };
-    let n = input.len();
-    while p.consumed < n {
-        p = step(p, keep, effects, sums, input, output);
+    let mut answer = [0; ANSWER_ROOM];
+    let mut left = state;
+    let mut refusal = None;
+    while !left.is_empty() {
+        let r = fields::read_in(sheet, left, &mut answer);
+        left = &left[r.consumed..];
+        refusal = refusal.or(refusal_of(r.answer));
     }
-    p
-}
-
-// The sheet that a state gives, on the effects and sums of a fresh one, and its refusal. The answers to its fields are not kept.
-pub fn load(effects: &mut Effects, sums: &mut DeadSums, state: &[u8]) -> Progress
-    requires { (effects.old ≡ zeros effect_count) × (sums.old ≡ zeros dead_sum_count) }
-    ensures { (whole result.rest effects.new sums.new ≡ loaded state.now) × (result.refusal ≡ due_state state.now) × InRange (whole result.rest effects.new sums.new) }
-{
-    let mut answer = [0u8; ANSWER_ROOM];
-    let rest = Rest::fresh(standard::fresh_settings());
-    read_all(rest, false, effects, sums, state, &mut answer)
+    refusal
 }

@@ -1,17 +1,18 @@
 -- The sets named from the cases of each kind are those of the row's best combination, whatever the row and the settings.
 -- Assumes nothing.
-use Prim.Native.Nat.{ℕ, ◌+◌, ◌*◌, ◌<◌, ◌≤◌, ◌^◌, max}
+use Prim.Native.Nat.{ℕ, zero, suc, ◌+◌, ◌*◌, ◌<◌, ◌≤◌, ◌^◌, max}
 use native.Mathlib.Omega.{arith}
 use mathlib.Core.Bool.{Bool, true, false, ◌&&◌, ◌||◌, false≢true}
 use mathlib.Core.List.{List}
 use mathlib.Core.Path.{◌≡◌, refl, sym, ap, ◌∙◌, subst}
 use borrow.Author.Tests.{lt-leb}
 use lib.Dec.{T, eqb, leb, ltb, eqb→eq, ltb→lt}
-use lib.IntN.{ℤ}
+use lib.IntN.{ℤ, neg_ℤ}
 use lib.ListN.{get_or}
 use Rattle.integers.specs.Sums.{when, sum, most, mask_of, up, down}
 use Rattle.integers.specs.Sets.{has}
 use Rattle.integers.proofs.Masks.{mask_below, bit_in_mask}
+use Rattle.integers.proofs.Signs.{neg_up}
 use Rattle.integers.proofs.Tests.{and_right}
 use Rattle.integers.proofs.Sums.{when_le, eqb_cases, ltb_cases, sum_same, sum_plus, sum_swap}
 use Rattle.standard.specs.declared.Settings.{Settings}
@@ -26,7 +27,7 @@ use Rattle.standard.proofs.Facts.{kind_in, shared_factor, shared_factor_lem}
 use Rattle.standard.proofs.Table.{tabulate, same_at}
 use Rattle.optimum.specs.Row.{group_by, is_together, group_of, acts_together, worth_of, acts_in, low_in}
 use Rattle.envelope.specs.Places.{Places}
-use Rattle.naming.specs.Sets.{lead_bit, gathered_of, chosen_of, ChosenInRange, named_of}
+use Rattle.naming.specs.Sets.{lead_bit, above_in, lead_in, gathered_of, group_sets, chosen_of, ChosenInRange, named_of}
 use Rattle.integers.proofs.Folds.{mask_same, when_sum, in_run, sum_run, most_multiple, most_at_multiple, ltb_times}
 use Rattle.naming.proofs.Acting.{is_always, is_subset, factored, acting_is}
 
@@ -138,6 +139,15 @@ module _ (places : List ℕ) (kind : ℕ → ℕ) (held : Places places kind) wh
   gathered_below set first count h l =
       omega (arith, gathered_is set first count h l, mask_below case_count (λ k. in_run first count (kind k) && has set (kind k)))
 
+  group_below : (set g : ℕ) → g < group_count → get_or (group_sets places set) g 0 < 2 ^ case_count
+  group_below set zero l = gathered_below set 6 3 (omega arith) (omega arith)
+  group_below set (suc zero) l = gathered_below set 9 1 (omega arith) (omega arith)
+  group_below set (suc (suc zero)) l = gathered_below set 10 1 (omega arith) (omega arith)
+  group_below set (suc (suc (suc zero))) l = gathered_below set 11 1 (omega arith) (omega arith)
+  group_below set (suc (suc (suc (suc zero)))) l = gathered_below set 12 1 (omega arith) (omega arith)
+  group_below set (suc (suc (suc (suc (suc zero))))) l = gathered_below set 13 1 (omega arith) (omega arith)
+  group_below set (suc (suc (suc (suc (suc (suc g)))))) l = absurd (omega arith)
+
   pub chosen_in_range : (row : ℕ) (joint : Bool) → ChosenInRange (chosen_of row places joint)
   unfolding chosen_of
   chosen_in_range row joint =
@@ -157,12 +167,7 @@ module _ (places : List ℕ) (kind : ℕ → ℕ) (held : Places places kind) wh
               gathered_both (kinds_in row) 4 2 self_straining 1 (omega arith) (omega arith) (omega arith),
               mask_below case_count (λ k. in_either 4 2 self_straining 1 (kind k) && has (kinds_in row) (kind k)),
             );
-        roof = gathered_below (kinds_in row) 6 3 (omega arith) (omega arith);
-        wind = gathered_below (kinds_in row) 9 1 (omega arith) (omega arith);
-        quake = gathered_below (kinds_in row) 10 1 (omega arith) (omega arith);
-        flood = gathered_below (kinds_in row) 11 1 (omega arith) (omega arith);
-        ice = gathered_below (kinds_in row) 12 1 (omega arith) (omega arith);
-        icewind = gathered_below (kinds_in row) 13 1 (omega arith) (omega arith);
+        groups = group_below (kinds_in row);
       }
 
   module _ (below : (k : ℕ) → kind k < kind_count) (s : Settings) (range : SettingsInRange s) (row : ℕ) where
@@ -233,7 +238,7 @@ module _ (places : List ℕ) (kind : ℕ → ℕ) (held : Places places kind) wh
           ∙ ap (λ (y : ℕ). when all y) (sym (run_passing (λ j. is_together (class_of j)) fluid 1 (omega arith) (omega arith) runs.joint))
 
       pub named_acting : (joint : Bool) → joint ≡ acts_together kind x fluid → (named_of (chosen_of row places joint) x).acting ≡ mask_of case_count (acts_in s row kind x)
-      unfolding named_of chosen_of
+      unfolding named_of chosen_of above_in lead_in sum
       named_acting joint e =
           omega (
             arith,
@@ -253,8 +258,10 @@ module _ (places : List ℕ) (kind : ℕ → ℕ) (held : Places places kind) wh
           )
 
       pub named_low : (joint : Bool) → (named_of (chosen_of row places joint) x).low ≡ mask_of case_count (low_in s row kind x)
-      unfolding named_of chosen_of low_in
+      unfolding named_of chosen_of above_in low_in
       named_low joint =
-          members_passing (λ j. eqb j permanent_earth) _ (run_passing (λ j. eqb j permanent_earth) 3 1 (omega arith) (omega arith) runs.earth) (λ k. ltb 0 (down (x k)))
+          mask_same case_count (λ k. has (gathered_of places (kinds_in row) 3 1) k && ltb 0 (up (neg_ℤ (x k)))) (λ k. has (gathered_of places (kinds_in row) 3 1) k && ltb 0 (down (x k)))
+          (λ k m. ap (λ (u : ℕ). has (gathered_of places (kinds_in row) 3 1) k && ltb 0 u) (neg_up (x k)))
+          ∙ members_passing (λ j. eqb j permanent_earth) _ (run_passing (λ j. eqb j permanent_earth) 3 1 (omega arith) (omega arith) runs.earth) (λ k. ltb 0 (down (x k)))
           ∙ mask_same case_count (λ k. (eqb (kind k) permanent_earth && factored s row kind k) && ltb 0 (down (x k))) (low_in s row kind x)
           (λ k m. and_exchanged (eqb (kind k) permanent_earth) (factored s row kind k) (ltb 0 (down (x k))))

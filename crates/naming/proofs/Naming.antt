@@ -1,26 +1,21 @@
--- The cases gathered from a run of kinds, and the sets made from what is marked of each set of cases: they fit, and are those of the definition.
+-- The cases gathered from a run of kinds, and the sets made of them: they fit.
 -- Assumes nothing.
-use Prim.Native.Nat.{ℕ, ◌+◌, ◌*◌, ◌<◌, ◌≤◌, ◌^◌}
+use Prim.Native.Nat.{ℕ, ◌+◌, ◌-◌, ◌*◌, ◌<◌, ◌≤◌, ◌^◌}
 use native.Mathlib.Numerals.{add-one}
 use native.Mathlib.Omega.{arith}
-use mathlib.Core.Bool.{Bool, ◌&&◌}
+use mathlib.Core.Bool.{Bool}
 use mathlib.Core.List.{List}
-use mathlib.Core.Path.{◌≡◌, sym, ap, ◌∙◌, subst}
-use lib.Dec.{ltb}
+use mathlib.Core.Path.{◌≡◌, refl, sym, ap, ◌∙◌}
 use lib.IntN.{ℤ}
 use lib.ListN.{get_or}
 use lib.Pow.{pow-lt, pow_pos}
 use Rattle.integers.specs.Sums.{when, sum, most, most_at, up}
 use Rattle.integers.specs.Sets.{has}
-use Rattle.integers.proofs.Masks.{mask_below}
 use Rattle.integers.proofs.Sums.{ltb_cases, most_at_lem, when_le, sum_most}
 use Rattle.standard.specs.Kinds.{kind_count}
 use Rattle.standard.specs.Combination.{case_count}
 use Rattle.envelope.specs.Places.{PlacesInRange}
-use Rattle.naming.specs.declared.Marked.{Marked}
-use Rattle.naming.specs.declared.Chosen.{Chosen}
-use Rattle.naming.specs.declared.Sets.{Sets}
-use Rattle.naming.specs.Sets.{lead_bit, marked_in, gathered_of, ChosenInRange, named_by, MarkedSets, named_of}
+use Rattle.naming.specs.Sets.{lead_bit, lead_in, gathered_of}
 
 -- ---- the cases of a run of kinds
 -- there is room for each kind's cases
@@ -32,10 +27,19 @@ gathered_small places factored first count range h l =
     (λ i m. omega (arith, when_le (has factored (first + i)) (get_or places (first + i) 0), range.each (first + i) (omega arith) (omega arith)))
 
 -- one kind more
-pub gathered_more : (places : List ℕ) (factored first i set next : ℕ) → set ≡ gathered_of places factored first i → (t : Bool) → has factored (first + i) ≡ t →
+gathered_more : (places : List ℕ) (factored first i set next : ℕ) → set ≡ gathered_of places factored first i → (t : Bool) → has factored (first + i) ≡ t →
     next ≡ set + when t (get_or places (first + i) 0) → next ≡ gathered_of places factored first (i + 1)
 unfolding gathered_of sum
 gathered_more places factored first i set next e t h n = rw add-one (n ∙ (λ j. e j + when (sym h j) (get_or places (first + i) 0)))
+
+pub gathered_next : (places : List ℕ) (factored first kind set next : ℕ) → first ≤ kind → set ≡ gathered_of places factored first (kind - first) → (t : Bool) →
+    has factored kind ≡ t → next ≡ set + when t (get_or places kind 0) → next ≡ gathered_of places factored first (kind + 1 - first)
+gathered_next places factored first kind set next l e t h n =
+    let own : first + (kind - first) ≡ kind = omega arith in
+    let one : kind + 1 - first ≡ kind - first + 1 = omega arith in
+    rw one
+    (gathered_more places factored first (kind - first) set next e t (ap (λ (j : ℕ). has factored j) own ∙ h)
+    (n ∙ ap (λ (j : ℕ). set + when t (get_or places j 0)) (sym own)))
 
 -- ---- the sets named
 lead_below : (n : ℕ) (g : ℕ → ℕ) → lead_bit n g < 2 ^ n
@@ -43,38 +47,24 @@ unfolding lead_bit
 lead_below n g =
     ltb_cases 0 (most n g) (λ t. when t (2 ^ most_at n g) < 2 ^ n) (λ h. pow-lt (most_at_lem n g h).0) (λ _. pow_pos n)
 
-module _ (p : ℕ → Bool) (x : ℕ → ℤ) (m : Marked) (e : m ≡ marked_in p x case_count) where
-  above_small : m.above < 2 ^ case_count
-  above_small = subst (λ (a : Marked). a.above < 2 ^ case_count) (sym e) (mask_below case_count (λ k. p k && ltb 0 (up (x k))))
+module _ (p : ℕ → Bool) (x : ℕ → ℤ) where
+  pub lead_small : lead_in p x case_count < 2 ^ case_count
+  unfolding lead_in
+  lead_small = lead_below case_count (λ k. when (p k) (up (x k)))
 
-  lead_small : m.lead < 2 ^ case_count
-  lead_small = subst (λ (a : Marked). a.lead < 2 ^ case_count) (sym e) (lead_below case_count (λ k. when (p k) (up (x k))))
+-- the leads of some groups
+unfoldable pub leads_of : List ℕ → (ℕ → ℤ) → ℕ → ℕ
+leads_of groups x n = sum n (λ g. lead_in (has (get_or groups g 0)) x case_count)
 
--- what is marked of each set of cases chosen
-module _ (d : Chosen) (range : ChosenInRange d) (c : Chosen) (is : c ≡ d) where
-  pub chosen_small : ChosenInRange c
-  chosen_small = subst ChosenInRange (sym is) range
+pub leads_none : (groups : List ℕ) (x : ℕ → ℤ) → leads_of groups x 0 ≡ 0
+unfolding leads_of sum
+leads_none groups x = refl
 
-  module _ (x : ℕ → ℤ) (earth free roof wind quake flood ice icewind : Marked)
-      (is_earth : earth ≡ marked_in (has c.earth) x case_count) (is_free : free ≡ marked_in (has c.free) x case_count)
-      (is_roof : roof ≡ marked_in (has c.roof) x case_count) (is_wind : wind ≡ marked_in (has c.wind) x case_count)
-      (is_quake : quake ≡ marked_in (has c.quake) x case_count) (is_flood : flood ≡ marked_in (has c.flood) x case_count)
-      (is_ice : ice ≡ marked_in (has c.ice) x case_count) (is_icewind : icewind ≡ marked_in (has c.icewind) x case_count) where
-    pub marked_small : MarkedSets c.always earth free roof wind quake flood ice icewind
-    marked_small =
-        record {
-          always_small = chosen_small.always;
-          free_small = above_small (has c.free) x free is_free;
-          roof_small = lead_small (has c.roof) x roof is_roof;
-          wind_small = lead_small (has c.wind) x wind is_wind;
-          quake_small = lead_small (has c.quake) x quake is_quake;
-          flood_small = lead_small (has c.flood) x flood is_flood;
-          ice_small = lead_small (has c.ice) x ice is_ice;
-          icewind_small = lead_small (has c.icewind) x icewind is_icewind;
-        }
+pub leads_more : (groups : List ℕ) (x : ℕ → ℤ) (n : ℕ) → leads_of groups x n + lead_in (has (get_or groups n 0)) x case_count ≡ leads_of groups x (n + 1)
+unfolding leads_of sum
+leads_more groups x n = rw add-one refl
 
-    pub named_is : (r : Sets) → r ≡ named_by c.always earth free roof wind quake flood ice icewind → r ≡ named_of d x
-    unfolding named_of
-    named_is r e =
-        e ∙ (λ i. named_by c.always (is_earth i) (is_free i) (is_roof i) (is_wind i) (is_quake i) (is_flood i) (is_ice i) (is_icewind i))
-        ∙ ap (λ (a : Chosen). named_of a x) is
+pub leads_small : (groups : List ℕ) (x : ℕ → ℤ) (n : ℕ) → leads_of groups x n ≤ n * 2 ^ case_count
+unfolding leads_of
+leads_small groups x n =
+    sum_most n (2 ^ case_count) (λ g. lead_in (has (get_or groups g 0)) x case_count) (λ g _. omega (arith, lead_small (has (get_or groups g 0)) x))

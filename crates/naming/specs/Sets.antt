@@ -1,12 +1,13 @@
 -- The sets of a row's best combination, as they are worked out from the cases of each kind.
-use Rattle.std.specs.Prelude.{ℕ, ◌+◌, ◌*◌, ◌<◌, ◌^◌, Bool, cond, ◌&&◌, List, ltb, ℤ, pos, get_or}
-use Rattle.std.specs.Int.Signed.{lt_z}
-use Rattle.integers.specs.Sums.{when, sum, most, most_at, mask_of, up, down}
+use Rattle.std.specs.Prelude.{ℕ, ◌+◌, ◌*◌, ◌<◌, ◌^◌, Bool, ◌&&◌, List, [], ◌∷◌, ltb, ℤ, get_or}
+use Rattle.integers.specs.Sums.{when, sum, most, most_at, mask_of, up}
 use Rattle.integers.specs.Sets.{has}
 use Rattle.standard.specs.Columns.{kinds_in}
-use Rattle.standard.specs.Kinds.{fluid, self_straining}
+use Rattle.standard.specs.Kinds.{group_count, fluid, self_straining}
 use Rattle.standard.specs.Combination.{case_count}
-use Rattle.naming.specs.declared.Marked.{Marked}
+use Rattle.envelope.specs.declared.Sign.{Sign}
+use Rattle.envelope.specs.declared.Sign.TheVariants.{Minus}
+use Rattle.envelope.specs.Signs.{signed}
 use Rattle.naming.specs.declared.Chosen.{Chosen}
 use Rattle.naming.specs.declared.Sets.{Sets}
 
@@ -14,29 +15,28 @@ use Rattle.naming.specs.declared.Sets.{Sets}
 unfoldable pub lead_bit : ℕ → (ℕ → ℕ) → ℕ
 lead_bit n g = when (ltb 0 (most n g)) (2 ^ most_at n g)
 
--- the members below n by their effects
-abbrev pub marked_in : (ℕ → Bool) → (ℕ → ℤ) → ℕ → Marked
-marked_in p x n =
-    record {
-      above = mask_of n (λ k. p k && ltb 0 (up (x k)));
-      below = mask_of n (λ k. p k && ltb 0 (down (x k)));
-      lead = lead_bit n (λ k. when (p k) (up (x k)));
-      most = pos (most n (λ k. when (p k) (up (x k))));
-    }
+-- effects with a sign
+abbrev pub with_sign : Sign → (ℕ → ℤ) → ℕ → ℤ
+with_sign s x k = signed s (x k)
 
--- one member more
-abbrev pub marked_with : Marked → ℤ → ℕ → Marked
-marked_with m x bit =
-    record {
-      above = m.above + when (ltb 0 (up x)) bit;
-      below = m.below + when (ltb 0 (down x)) bit;
-      lead = cond (lt_z m.most x) bit m.lead;
-      most = cond (lt_z m.most x) x m.most;
-    }
+-- of the members below n, those whose effect is above zero, and the first of those with the greatest effect above zero, as sets
+unfoldable pub above_in : (ℕ → Bool) → (ℕ → ℤ) → ℕ → ℕ
+above_in p x n = mask_of n (λ k. p k && ltb 0 (up (x k)))
+
+unfoldable pub lead_in : (ℕ → Bool) → (ℕ → ℤ) → ℕ → ℕ
+lead_in p x n = lead_bit n (λ k. when (p k) (up (x k)))
 
 -- the cases of the kinds from `first` on, `count` of them, that are among the kinds of a set
 unfoldable pub gathered_of : List ℕ → (factored first count : ℕ) → ℕ
 gathered_of places factored first count = sum count (λ i. when (has factored (first + i)) (get_or places (first + i) 0))
+
+-- by group
+abbrev pub group_sets : List ℕ → ℕ → List ℕ
+group_sets places factored =
+    gathered_of places factored 6 3
+    ∷ gathered_of places factored 9 1 ∷ gathered_of places factored 10 1 ∷ gathered_of places factored 11 1
+    ∷ gathered_of places factored 12 1 ∷ gathered_of places factored 13 1
+    ∷ []
 
 -- in a row; `joint` says that the F cases act
 unfoldable pub chosen_of : ℕ → List ℕ → Bool → Chosen
@@ -45,12 +45,7 @@ chosen_of row places joint =
       always = gathered_of places (kinds_in row) 1 1 + gathered_of places (kinds_in row) 3 1 + when joint (gathered_of places (kinds_in row) fluid 1);
       earth = gathered_of places (kinds_in row) 3 1;
       free = gathered_of places (kinds_in row) 4 2 + gathered_of places (kinds_in row) self_straining 1;
-      roof = gathered_of places (kinds_in row) 6 3;
-      wind = gathered_of places (kinds_in row) 9 1;
-      quake = gathered_of places (kinds_in row) 10 1;
-      flood = gathered_of places (kinds_in row) 11 1;
-      ice = gathered_of places (kinds_in row) 12 1;
-      icewind = gathered_of places (kinds_in row) 13 1;
+      groups = group_sets places (kinds_in row);
     }
 
 -- each is a set of cases, the first made up of three
@@ -58,30 +53,12 @@ pub record ChosenInRange (c : Chosen) : Type 0 where
   pub always : c.always < 3 * 2 ^ case_count
   pub earth : c.earth < 2 ^ case_count
   pub free : c.free < 2 ^ case_count
-  pub roof : c.roof < 2 ^ case_count
-  pub wind : c.wind < 2 ^ case_count
-  pub quake : c.quake < 2 ^ case_count
-  pub flood : c.flood < 2 ^ case_count
-  pub ice : c.ice < 2 ^ case_count
-  pub icewind : c.icewind < 2 ^ case_count
+  pub groups : (g : ℕ) → g < group_count → get_or c.groups g 0 < 2 ^ case_count
 
--- the sets that the cases marked make
-abbrev pub named_by : (always : ℕ) → (earth free roof wind quake flood ice icewind : Marked) → Sets
-named_by always earth free roof wind quake flood ice icewind =
-    record { acting = always + free.above + (roof.lead + wind.lead + quake.lead + flood.lead + ice.lead + icewind.lead); low = earth.below }
-
-pub record MarkedSets (always : ℕ) (earth free roof wind quake flood ice icewind : Marked) : Type 0 where
-  pub always_small : always < 3 * 2 ^ case_count
-  pub free_small : free.above < 2 ^ case_count
-  pub roof_small : roof.lead < 2 ^ case_count
-  pub wind_small : wind.lead < 2 ^ case_count
-  pub quake_small : quake.lead < 2 ^ case_count
-  pub flood_small : flood.lead < 2 ^ case_count
-  pub ice_small : ice.lead < 2 ^ case_count
-  pub icewind_small : icewind.lead < 2 ^ case_count
-
+-- the sets that the cases chosen make: of the groups the leads act
 unfoldable pub named_of : Chosen → (ℕ → ℤ) → Sets
 named_of c x =
-    named_by c.always (marked_in (has c.earth) x case_count) (marked_in (has c.free) x case_count) (marked_in (has c.roof) x case_count)
-    (marked_in (has c.wind) x case_count) (marked_in (has c.quake) x case_count) (marked_in (has c.flood) x case_count)
-    (marked_in (has c.ice) x case_count) (marked_in (has c.icewind) x case_count)
+    record {
+      acting = c.always + above_in (has c.free) x case_count + sum group_count (λ g. lead_in (has (get_or c.groups g 0)) x case_count);
+      low = above_in (has c.earth) (with_sign Minus x) case_count;
+    }

@@ -5,7 +5,7 @@ use native.Mathlib.Omega.{arith}
 use mathlib.Core.Bool.{Bool, true, false, not}
 use mathlib.Core.List.{List}
 use mathlib.Core.Path.{◌≡◌, refl, sym, ap, ◌∙◌, subst}
-use lib.IntN.{ℤ, pos, neg_ℤ, ◌+ℤ◌, ◌*ℤ◌, nat_abs}
+use lib.IntN.{ℤ, neg_ℤ, ◌+ℤ◌, ◌*ℤ◌, nat_abs}
 use Rattle.standard.specs.declared.Settings.{Settings}
 use Rattle.standard.specs.declared.Capacities.{Capacities}
 use Rattle.standard.specs.Kinds.{kind_count, fluid}
@@ -13,41 +13,38 @@ use Rattle.standard.specs.Combination.{bit}
 use Rattle.optimum.specs.Row.{total_of, acts_together}
 use Rattle.envelope.specs.declared.Best.{Best}
 use Rattle.envelope.specs.declared.Weights.{Weights}
-use Rattle.envelope.specs.Range.{effect_of, component_count, effect_most, EffectsInRange, CapacitiesInRange}
+use Rattle.envelope.specs.declared.Sign.{Sign}
+use Rattle.envelope.specs.Range.{component_count, effect_limit, effect_most, CapacitiesInRange}
 use Rattle.envelope.specs.Places.{Places}
 use Rattle.envelope.specs.Directions.{turned, signs_by}
-use Rattle.envelope.specs.Envelope.{best_at, best_of, governing_of, weighed, pattern_of, pattern_best, higher_by, peak_of}
+use Rattle.envelope.specs.Envelope.{best_of, governing_of, weighed, pattern_of, pattern_best, higher_by, peak_of}
 use Rattle.envelope.proofs.Patterns.{pattern_directed, pattern_opposed, pattern_in_range}
 use Rattle.sums.specs.Sums.{total_count, SumsOf, Summed, AllTotalsOf, fluid_acts}
-use Rattle.sums.proofs.Gathered.{summed, sums_in_range}
+use Rattle.sums.proofs.Gathered.{summed}
 use Rattle.sums.proofs.Totals.{total_adds, total_scales, total_negated}
-use Rattle.directions.specs.declared.Directions.{Directions}
-use Rattle.directions.specs.Four.{directed, DirectionsInRange, FourOf, eight_by, fluid_in}
-use Rattle.directions.proofs.FourHeld.{directed_most}
-use Rattle.terms.proofs.Exchange.{value_is, negated_value_is, fluid_is, negated_fluid_is, terms_in_range}
+use Rattle.directions.specs.Four.{directed, FourOf, eight_by, fluid_in}
+use Rattle.directions.proofs.Sizes.{directed_most}
+use Rattle.terms.proofs.Exchange.{value_is, negated_value_is, fluid_is, negated_fluid_is, sums_most, terms_in_range}
 use Rattle.governing.specs.Ways.{toward_of, eight_of}
 use Rattle.passes.specs.Passes.{BothWays, ServesBoth, ServesPatterns, ComponentPass, PatternPass}
 
-pub serves_both : (sums : List ℕ) (kind : ℕ → ℕ) (e : ℕ → ℤ) → ((k : ℕ) → kind k < kind_count) → ((k : ℕ) → nat_abs (e k) ≤ effect_most) → Summed sums kind e →
-    ServesBoth sums kind e
+pub serves_both : (held : ℕ → ℕ → ℕ) (kind : ℕ → ℕ) (e : ℕ → ℤ) → ((k : ℕ) → kind k < kind_count) → ((k : ℕ) → nat_abs (e k) ≤ effect_most) → Summed held kind e →
+    ServesBoth held kind e
 unfolding governing_of
-serves_both sums kind e below small h =
+serves_both held kind e below small h =
     record {
-      ready = record {
-        sums_range = sums_in_range sums kind e h small;
-        terms_range = terms_in_range sums kind e below h small;
-      };
+      ready = record { held_range = sums_most held kind e below h small; terms_range = terms_in_range held kind e below h small };
       governs = λ s. record {
-        as_is = ap (best_of s) (λ i row. value_is sums kind e below h s row i);
-        turned = ap (best_of s) (λ i row. negated_value_is sums kind e below h s row i);
+        as_is = ap (best_of s) (λ i row. value_is held kind e below h s row i);
+        turned = ap (best_of s) (λ i row. negated_value_is held kind e below h s row i);
       };
-      tells_fluid = record { as_is = fluid_is sums kind e below h; turned = negated_fluid_is sums kind e below h };
+      tells_fluid = record { as_is = fluid_is held kind e below h; turned = negated_fluid_is held kind e below h };
     }
 
-pub component_served : (sums : List ℕ) (totals : ℕ → ℤ) (places : List ℕ) (e : ℕ → ℤ) → ((k : ℕ) → nat_abs (e k) ≤ effect_most) → SumsOf sums totals places e kind_count →
-    ComponentPass sums totals places e
-component_served sums totals places e small h =
-    record { serves = λ kind below held true. serves_both sums kind e below small (summed sums totals places kind e held true h) }
+pub component_served : (held : ℕ → ℕ → ℕ) (totals : ℕ → ℤ) (places : List ℕ) (e : ℕ → ℤ) → ((k : ℕ) → nat_abs (e k) ≤ effect_most) → SumsOf held totals places e kind_count →
+    ComponentPass held totals places e
+component_served held totals places e small h =
+    record { serves = λ kind below placed added. serves_both held kind e below small (summed held totals places kind e placed added h) }
 
 -- ---- the patterns
 module _ (p : Capacities) (effect : ℕ → ℕ → ℤ) where
@@ -61,33 +58,30 @@ module _ (p : Capacities) (effect : ℕ → ℕ → ℤ) where
       λ t k. (ap neg_ℤ (sym (pattern_directed p effect k i a b i0 i1 i2)) ∙ pattern_opposed p effect k j a b j0 j1 j2) t
 
   -- what sums say both ways of the first four patterns holds of the eight
-  module _ {A : Type 0} (f : List ℕ → ℕ → ℕ → A) (g : (ℕ → ℤ) → A) (s0 s1 s2 s3 : List ℕ) (b0 : BothWays f g s0 (by_pattern 0)) (b1 : BothWays f g s1 (by_pattern 1))
-      (b2 : BothWays f g s2 (by_pattern 2)) (b3 : BothWays f g s3 (by_pattern 3)) where
-    pub eight : (else : A) (i : ℕ) → i ≤ 7 → eight_by f s0 s1 s2 s3 else i ≡ g (by_pattern i)
-    eight else zero l = b0.as_is
-    eight else (suc zero) l = b1.as_is
-    eight else (suc (suc zero)) l = b2.as_is
-    eight else (suc (suc (suc zero))) l = b3.as_is
-    eight else (suc (suc (suc (suc zero)))) l = b3.turned ∙ ap g (opposite_pattern 3 4 true true refl refl refl refl refl refl)
-    eight else (suc (suc (suc (suc (suc zero))))) l = b2.turned ∙ ap g (opposite_pattern 2 5 false true refl refl refl refl refl refl)
-    eight else (suc (suc (suc (suc (suc (suc zero)))))) l = b1.turned ∙ ap g (opposite_pattern 1 6 true false refl refl refl refl refl refl)
-    eight else (suc (suc (suc (suc (suc (suc (suc zero))))))) l = b0.turned ∙ ap g (opposite_pattern 0 7 false false refl refl refl refl refl refl)
-    eight else (suc (suc (suc (suc (suc (suc (suc (suc i)))))))) l = absurd (omega arith)
+  module _ {A : Type 0} (f : (ℕ → ℕ → ℕ) → Sign → A) (g : (ℕ → ℤ) → A) (held : ℕ → ℕ → ℕ → ℕ) (b : (d : ℕ) → d < 4 → BothWays f g (held d) (by_pattern d)) where
+    pub eight : (i : ℕ) → i ≤ 7 → eight_by f held i ≡ g (by_pattern i)
+    eight zero l = (b 0 (omega arith)).as_is
+    eight (suc zero) l = (b 1 (omega arith)).as_is
+    eight (suc (suc zero)) l = (b 2 (omega arith)).as_is
+    eight (suc (suc (suc zero))) l = (b 3 (omega arith)).as_is
+    eight (suc (suc (suc (suc zero)))) l = (b 3 (omega arith)).turned ∙ ap g (opposite_pattern 3 4 true true refl refl refl refl refl refl)
+    eight (suc (suc (suc (suc (suc zero))))) l = (b 2 (omega arith)).turned ∙ ap g (opposite_pattern 2 5 false true refl refl refl refl refl refl)
+    eight (suc (suc (suc (suc (suc (suc zero)))))) l = (b 1 (omega arith)).turned ∙ ap g (opposite_pattern 1 6 true false refl refl refl refl refl refl)
+    eight (suc (suc (suc (suc (suc (suc (suc zero))))))) l = (b 0 (omega arith)).turned ∙ ap g (opposite_pattern 0 7 false false refl refl refl refl refl refl)
+    eight (suc (suc (suc (suc (suc (suc (suc (suc i)))))))) l = absurd (omega arith)
 
 peak_same : (b c : ℕ → Best) (n : ℕ) → ((i : ℕ) → i ≤ n → b i ≡ c i) → peak_of b n ≡ peak_of c n
 unfolding peak_of
 peak_same b c zero h = λ i. record { pattern = 0; best = h 0 (omega arith) i }
 peak_same b c (suc n) h = λ i. higher_by (peak_same b c n (λ j l. h j (omega arith)) i) (suc n) (h (suc n) (omega arith) i)
 
-module _ (s0 s1 s2 s3 : List ℕ) (kind : ℕ → ℕ) (effect : ℕ → ℕ → ℤ) (p : Capacities) (h : ServesPatterns s0 s1 s2 s3 kind effect p) where
-  pub peak_served : (s : Settings) → peak_of (eight_of s s0 s1 s2 s3) 7 ≡ peak_of (pattern_best s kind effect p) 7
+module _ (held : ℕ → ℕ → ℕ → ℕ) (kind : ℕ → ℕ) (effect : ℕ → ℕ → ℤ) (p : Capacities) (h : ServesPatterns held kind effect p) where
+  pub peak_served : (s : Settings) → peak_of (eight_of s held) 7 ≡ peak_of (pattern_best s kind effect p) 7
   peak_served s =
-      peak_same (eight_of s s0 s1 s2 s3) (pattern_best s kind effect p) 7
-      (eight p effect (toward_of s) (governing_of s kind) s0 s1 s2 s3 (h.first.governs s) (h.second.governs s) (h.third.governs s) (h.fourth.governs s) (best_at 0 (pos 0)))
+      peak_same (eight_of s held) (pattern_best s kind effect p) 7 (eight p effect (toward_of s) (governing_of s kind) held (λ d l. (h.along d l).governs s))
 
-  pub fluid_served : (i : ℕ) → i ≤ 7 → fluid_in s0 s1 s2 s3 i ≡ acts_together kind (weighed (pattern_of p i) effect) fluid
-  fluid_served =
-      eight p effect fluid_acts (λ x. acts_together kind x fluid) s0 s1 s2 s3 h.first.tells_fluid h.second.tells_fluid h.third.tells_fluid h.fourth.tells_fluid false
+  pub fluid_served : (i : ℕ) → i ≤ 7 → fluid_in held i ≡ acts_together kind (weighed (pattern_of p i) effect) fluid
+  fluid_served = eight p effect fluid_acts (λ x. acts_together kind x fluid) held (λ d l. (h.along d l).tells_fluid)
 
 -- ---- the totals in a direction
 module _ (totals : ℕ → ℕ → ℤ) (kind : ℕ → ℕ) (effect : ℕ → ℕ → ℤ) (h : AllTotalsOf totals kind effect) (w : Weights) (j : ℕ) (l : j < total_count) where
@@ -111,35 +105,33 @@ module _ (totals : ℕ → ℕ → ℤ) (kind : ℕ → ℕ) (effect : ℕ → �
       ∙ sym (total_adds kind (suc j) n (λ k. y k +ℤ z k))
 
 -- ---- the four directions
-module _ (s0 s1 s2 s3 : List ℕ) (totals : List ℤ) (places : List ℕ) (effects : List ℤ) (p : Capacities) (r : EffectsInRange effects) (c : CapacitiesInRange p)
-    (h : FourOf s0 s1 s2 s3 (directed (pattern_of p 0) (effect_of totals)) places (directed (pattern_of p 0) (effect_of effects)) kind_count) where
-  abbrev ways : ℕ → Directions
-  ways = directed (pattern_of p 0) (effect_of effects)
-
-  abbrev total_ways : ℕ → Directions
-  total_ways = directed (pattern_of p 0) (effect_of totals)
-
-  small : (k : ℕ) → DirectionsInRange (ways k)
-  small = directed_most effects (pattern_of p 0) r (pattern_in_range p 0 c)
-
+module _ (totals : ℕ → ℕ → ℤ) (effect : ℕ → ℕ → ℤ) (p : Capacities) where
   -- a direction is a pattern
-  module _ (kind : ℕ → ℕ) (below : (k : ℕ) → kind k < kind_count) (placed : Places places kind) (true_totals : AllTotalsOf (effect_of totals) kind (effect_of effects)) where
-    served : (sums : List ℕ) (i : ℕ) (way : Directions → ℤ) →
-        ((k : ℕ) → way (ways k) ≡ weighed (pattern_of p i) (effect_of effects) k) → ((k : ℕ) → nat_abs (way (ways k)) ≤ effect_most) →
-        ((j : ℕ) → j < total_count → way (total_ways j) ≡ total_of kind (λ k. way (ways k)) (suc j)) →
-        SumsOf sums (λ j. way (total_ways j)) places (λ k. way (ways k)) kind_count → ServesBoth sums kind (weighed (pattern_of p i) (effect_of effects))
-    served sums i way is most total held =
-        subst (ServesBoth sums kind) (λ t k. is k t)
-        ((component_served sums (λ j. way (total_ways j)) places (λ k. way (ways k)) most held).serves kind below placed (record { each = total }))
+  is_pattern : (d : ℕ) → d < 4 → (k : ℕ) → directed (pattern_of p 0) effect d k ≡ weighed (pattern_of p d) effect k
+  is_pattern zero l k = pattern_directed p effect k 0 false false refl refl refl
+  is_pattern (suc zero) l k = pattern_directed p effect k 1 true false refl refl refl
+  is_pattern (suc (suc zero)) l k = pattern_directed p effect k 2 false true refl refl refl
+  is_pattern (suc (suc (suc zero))) l k = pattern_directed p effect k 3 true true refl refl refl
+  is_pattern (suc (suc (suc (suc d)))) l k = absurd (omega arith)
 
-    pub patterns_in : ServesPatterns s0 s1 s2 s3 kind (effect_of effects) p
-    patterns_in =
-        record {
-          first = served s0 0 (λ d. d.first) (λ k. pattern_directed p (effect_of effects) k 0 false false refl refl refl) (λ k. (small k).first) (λ j l. direction_total (effect_of totals) kind (effect_of effects) true_totals (pattern_of p 0) j l false false) h.first;
-          second = served s1 1 (λ d. d.second) (λ k. pattern_directed p (effect_of effects) k 1 true false refl refl refl) (λ k. (small k).second) (λ j l. direction_total (effect_of totals) kind (effect_of effects) true_totals (pattern_of p 0) j l true false) h.second;
-          third = served s2 2 (λ d. d.third) (λ k. pattern_directed p (effect_of effects) k 2 false true refl refl refl) (λ k. (small k).third) (λ j l. direction_total (effect_of totals) kind (effect_of effects) true_totals (pattern_of p 0) j l false true) h.third;
-          fourth = served s3 3 (λ d. d.fourth) (λ k. pattern_directed p (effect_of effects) k 3 true true refl refl refl) (λ k. (small k).fourth) (λ j l. direction_total (effect_of totals) kind (effect_of effects) true_totals (pattern_of p 0) j l true true) h.fourth;
-        }
+  -- and its totals are those of its effects
+  total_along : (kind : ℕ → ℕ) → AllTotalsOf totals kind effect → (d : ℕ) → d < 4 → (j : ℕ) → j < total_count →
+      directed (pattern_of p 0) totals d j ≡ total_of kind (directed (pattern_of p 0) effect d) (suc j)
+  total_along kind h zero l j m = direction_total totals kind effect h (pattern_of p 0) j m false false
+  total_along kind h (suc zero) l j m = direction_total totals kind effect h (pattern_of p 0) j m true false
+  total_along kind h (suc (suc zero)) l j m = direction_total totals kind effect h (pattern_of p 0) j m false true
+  total_along kind h (suc (suc (suc zero))) l j m = direction_total totals kind effect h (pattern_of p 0) j m true true
+  total_along kind h (suc (suc (suc (suc d)))) l j m = absurd (omega arith)
 
-  pub patterns_served : PatternPass s0 s1 s2 s3 (effect_of totals) places (effect_of effects) p
-  patterns_served = record { serves = patterns_in }
+  pub patterns_served : (held : ℕ → ℕ → ℕ → ℕ) (places : List ℕ) → ((k c : ℕ) → nat_abs (effect k c) ≤ effect_limit) → CapacitiesInRange p →
+      FourOf held (directed (pattern_of p 0) totals) places (directed (pattern_of p 0) effect) kind_count → PatternPass held totals places effect p
+  patterns_served held places small range h = record { serves = λ kind below placed added. record { along = served kind below placed added } }
+    where
+      served : (kind : ℕ → ℕ) → ((k : ℕ) → kind k < kind_count) → Places places kind → AllTotalsOf totals kind effect → (d : ℕ) → d < 4 →
+          ServesBoth (held d) kind (weighed (pattern_of p d) effect)
+      served kind below placed added d l =
+          let along = directed (pattern_of p 0) effect d in
+          let most = directed_most (pattern_of p 0) (pattern_in_range p 0 range) effect small d in
+          subst (ServesBoth (held d) kind) (λ t k. is_pattern d l k t)
+          ((component_served (held d) (directed (pattern_of p 0) totals d) places along most (h.along d l)).serves kind below placed
+          (record { each = total_along kind added d l }))

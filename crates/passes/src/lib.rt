@@ -1,61 +1,75 @@
 #![tactic(auto)]
 
-ghost use Rattle.std.specs.Prelude.{◌≡◌, ◌<◌, ◌^◌, length};
-ghost use Rattle.envelope.specs.Range.{effect_of, EffectsInRange, TotalsInRange, CapacitiesInRange};
+ghost use Rattle.std.specs.Prelude.{◌≡◌, ◌*◌, ◌<◌};
+ghost use Rattle.envelope.specs.Range.{effect_of, TotalsInRange, CapacitiesInRange};
 ghost use Rattle.envelope.specs.Envelope.{signed_by, pattern_of};
 ghost use Rattle.envelope.specs.Places.{Placed};
-ghost use Rattle.sums.specs.Sums.{sum_count};
+ghost use Rattle.sums.specs.Sums.{held_at};
+ghost use Rattle.sums.specs.Directions.{held_in};
 ghost use Rattle.passes.specs.Passes.{ComponentPass, PatternPass};
 
-use envelope::Weights;
+use envelope::{CasesByKind, StationEffects, Weights};
 use standard::Capacities;
 use sums::Sums;
 
+mod one_component;
+
+pub use one_component::OneComponent;
+
 // The totals of D and F, and one pass over the other cases of a station: the sums serve the maximum and the minimum of a component.
-pub fn component_pass(totals: &[i64], places: &[u64], effects: &[i16], component: usize) -> Sums
-    requires { TotalsInRange totals.now × Placed places.now × EffectsInRange effects.now × (component < 3) }
-    ensures { ComponentPass result (λ j. effect_of totals.now j component) places.now (λ k. effect_of effects.now k component) }
+pub fn component_pass(
+    totals: &[i64],
+    places: &CasesByKind,
+    effects: StationEffects<'_>,
+    component: usize,
+) -> Sums
+    requires { TotalsInRange totals.now × Placed places.now.sets × (component < 3) }
+    ensures { ComponentPass (held_at result.by_kind) (λ j. effect_of totals.now j component) places.now.sets (λ k. effect_of effects.entry.all.now k component) }
 {
-    sums::sums_of(totals, places, effects, component)
+    let mut sums = [Sums::new()];
+    let second = 3 + component;
+    let read = OneComponent { component };
+    sums::sum_up(
+        &mut sums,
+        [[totals[component]], [totals[second]]],
+        places,
+        effects,
+        read,
+    );
+    sums[0]
 }
 
-// A weight, with a minus sign or without.
-fn signed_by(minus: bool, x: u64) -> i64
-    requires { x < 2 ^ 63 }
-    ensures { result ≡ signed_by minus x }
+// The product of two capacities, with a minus sign or without.
+// Stays: a bool, a bit of the pattern.
+fn signed_product(minus: bool, a: u16, b: u16) -> i64
+    ensures { result ≡ signed_by minus (a * b) }
 {
-    let w = integers::signed(x);
-    if minus { integers::negated(w) } else { w }
+    let product = i64::from(a) * i64::from(b);
+    if minus { -product } else { product }
 }
 
 // The weights of the numerator for a pattern of signs.
 pub fn pattern_weights(p: Capacities, pattern: usize) -> Weights
     ensures { result ≡ pattern_of p pattern }
 {
-    let n = p.n as u64;
-    let y = p.y as u64;
-    let z = p.z as u64;
     Weights {
-        n: signed_by(pattern % 2 == 1, y * z),
-        y: signed_by(pattern / 2 % 2 == 1, n * z),
-        z: signed_by(pattern / 4 % 2 == 1, n * y),
+        n: signed_product(pattern % 2 == 1, p.y, p.z),
+        y: signed_product(pattern / 2 % 2 == 1, p.n, p.z),
+        z: signed_product(pattern / 4 % 2 == 1, p.n, p.y),
     }
 }
 
 // The totals, and one pass over the other cases, in four directions: the sums serve a pattern of signs and the opposite one each, so all eight.
 pub fn pattern_pass(
-    s0: &mut [u64],
-    s1: &mut [u64],
-    s2: &mut [u64],
-    s3: &mut [u64],
+    sums: &mut [Sums; 4],
     totals: &[i64],
-    places: &[u64],
-    effects: &[i16],
+    places: &CasesByKind,
+    effects: StationEffects<'_>,
     p: Capacities,
 )
-    requires { (length s0.old ≡ sum_count) × (length s1.old ≡ sum_count) × (length s2.old ≡ sum_count) × (length s3.old ≡ sum_count) × TotalsInRange totals.now × Placed places.now × EffectsInRange effects.now × CapacitiesInRange p }
-    ensures { PatternPass s0.new s1.new s2.new s3.new (effect_of totals.now) places.now (effect_of effects.now) p }
+    requires { TotalsInRange totals.now × Placed places.now.sets × CapacitiesInRange p }
+    ensures { PatternPass (held_in sums.new) (effect_of totals.now) places.now.sets (effect_of effects.entry.all.now) p }
 {
     let w = pattern_weights(p, 0);
-    directions::four_sums_of(s0, s1, s2, s3, totals, places, effects, w);
+    directions::four_sums_of(sums, totals, places, effects, w);
 }

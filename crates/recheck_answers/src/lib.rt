@@ -3,181 +3,154 @@
 
 #![tactic(auto)]
 
-ghost use Rattle.std.specs.Prelude.{◌<◌, length};
+ghost use Rattle.std.specs.Prelude.{◌<◌};
 
-use recheck_bytes::{byte_at, index_at, number_at, same_at};
-use recheck_combinations::{Look, times};
-use recheck_enumeration::{Named, Options, all_between, is_large, reaches};
-use recheck_refusals::refusal_due;
-use recheck_rows::low_factor;
-use recheck_sheet::{WorkingSheet, changed};
-use std::num::wrapping_add_u64;
+use recheck_bytes::{byte_at, index_at, number_at};
+use recheck_combinations::{Capacities, Case, Component, Effects, Figure, times};
+use recheck_enumeration::{Look, Named, all_between, is_large, reaches};
+use recheck_refusals::accepted_tag;
+use recheck_sheet::{CASES, STATIONS, Tag, Triple, WorkingSheet};
+use recheck_tally::Outcome;
 
-// What was seen of a reading: whether the answer is right, whether a look was asked for and answered, whether that look had
-// too many cases for the enumeration, and whether a refusal was due.
-#[derive(Drop)]
+// What was seen of a reading: whether the answer is right, and what the reading was.
+#[derive(Clone, Copy)]
 pub struct Seen {
     pub ok: bool,
-    pub looked: bool,
-    pub skipped: bool,
-    pub refused: bool,
+    pub outcome: Outcome,
 }
 
-// The station's effects, three for each place.
-fn effects_at(effects: &[u16; 1536], station: usize) -> [u16; 96] {
-    let mut here = [0u16; 96];
-    let mut i: usize = 0;
-    while i < 96 {
-        here[i] = effects[i / 3 * 48 + station % 16 * 3 + i % 3];
-        i += 1;
+fn signed(t: Triple) -> Effects {
+    Effects {
+        n: t.n.cast_signed(),
+        my: t.my.cast_signed(),
+        mz: t.mz.cast_signed(),
     }
-    here
+}
+
+// The cases as a station sees them.
+fn cases_at(w: &WorkingSheet, station: usize) -> [Case; CASES] {
+    let place = station % STATIONS;
+    w.places.map(|p| Case {
+        kind: p.kind,
+        effects: signed(p.effects[place]),
+    })
 }
 
 // Row, acting cases and low cases as an answer names them from `at` on, and the figure beside them.
-fn named_at(answer: &[u8], at: usize, figure: u64) -> Named
+fn named_at(answer: &[u8], at: usize, figure: i64) -> Named
     requires { at < 100 }
 {
     Named {
         row: byte_at(answer, at),
         acting: number_at(answer, at + 1, 4),
         low: number_at(answer, at + 5, 4),
-        figure: figure,
+        figure,
     }
 }
 
-// Whether the answer has this many bytes and begins with these three.
-fn headed(answer: &[u8], size: usize, header: &[u8]) -> bool
-    requires { length header.now < 4 }
-{
-    (answer.len() == size) & same_at(answer, 0, header)
-}
-
-// A signed number of eight bytes, moved up by 2^63 as the figures are.
-fn signed_at(answer: &[u8], at: usize) -> u64
+fn signed_at(answer: &[u8], at: usize) -> i64
     requires { at < 100 }
 {
-    wrapping_add_u64(number_at(answer, at, 8), 9223372036854775808)
-}
-
-fn options(w: WorkingSheet) -> Options {
-    Options {
-        method: w.method,
-        live: w.live,
-        zone: w.zone,
-        ice: w.ice,
-        straining: w.straining,
-    }
+    number_at(answer, at, 8).cast_signed()
 }
 
 // Whether every admissible combination is between the ends; of a sheet too large for that, that the ends are in order.
-fn bounded(k: Look, o: Options, kinds: &[u8; 32], effects: &[u16; 96]) -> bool {
-    if is_large(kinds) {
-        return k.least <= k.greatest;
+fn is_bounded(look: Look, w: &WorkingSheet, cases: &[Case; CASES]) -> bool {
+    if is_large(cases) {
+        look.least <= look.greatest
+    } else {
+        all_between(look, w.options, cases)
     }
-    all_between(k, o, kinds, effects)
 }
 
-// The combinations named from these places on give the greatest and the least figure, and every other is between them.
-fn ends_right(k: Look, o: Options, kinds: &[u8; 32], effects: &[u16; 96], answer: &[u8]) -> bool {
-    let maximum = reaches(k, o, kinds, effects, named_at(answer, 11, k.greatest));
-    let minimum = reaches(k, o, kinds, effects, named_at(answer, 28, k.least));
-    maximum & minimum & bounded(k, o, kinds, effects)
-}
-
-fn extremes_right(w: WorkingSheet, field: &[u8], answer: &[u8]) -> bool {
-    let effects = effects_at(&w.effects, index_at(field, 3));
-    let k = Look {
-        component: byte_at(field, 4),
-        low_factor: low_factor(w.method),
+// The combinations named give the greatest and the least figure, and every other is between them.
+fn is_extremes(w: &WorkingSheet, field: &[u8], answer: &[u8]) -> bool {
+    let Ok(component) = Component::try_from(byte_at(field, 4)) else {
+        return false;
+    };
+    let cases = cases_at(w, index_at(field, 3));
+    let look = Look {
+        figure: Figure::Effect(component),
         least: signed_at(answer, 20),
         greatest: signed_at(answer, 3),
-        axial: 0,
-        bending_y: 0,
-        bending_z: 0,
     };
-    let header = headed(answer, 37, b"\x86\x00\x22");
-    header & ends_right(k, options(w), &w.kinds, &effects, answer)
-}
-
-// What a 07 asks for, with the station's capacities.
-fn utilisation_look(w: WorkingSheet, station: usize, greatest: u64) -> Look {
-    let first = station % 16 * 3;
-    let second = first + 1;
-    let third = first + 2;
-    Look {
-        component: 3,
-        low_factor: low_factor(w.method),
-        least: 0,
-        greatest: greatest,
-        axial: w.capacities[first] as u64,
-        bending_y: w.capacities[second] as u64,
-        bending_z: w.capacities[third] as u64,
-    }
-}
-
-fn utilisation_right(w: WorkingSheet, field: &[u8], answer: &[u8]) -> bool {
-    let station = index_at(field, 3);
-    let effects = effects_at(&w.effects, station);
-    let o = options(w);
-    let k = utilisation_look(w, station, number_at(answer, 3, 8));
-    let header = headed(answer, 29, b"\x87\x00\x1a");
-    let share = share_right(k, number_at(answer, 11, 8), byte_at(answer, 19));
-    let reached = reaches(k, o, &w.kinds, &effects, named_at(answer, 20, k.greatest));
-    header & share & reached & bounded(k, o, &w.kinds, &effects)
+    let header = answer.len() == 37 && answer.starts_with(b"\x86\x00\x22");
+    let maximum = named_at(answer, 11, look.greatest);
+    let minimum = named_at(answer, 28, look.least);
+    header
+        && reaches(look, w.options, &cases, maximum)
+        && reaches(look, w.options, &cases, minimum)
+        && is_bounded(look, w, &cases)
 }
 
 // The denominator is the formula's, and the verdict is pass exactly where the numerator is not above it.
-fn share_right(k: Look, denominator: u64, verdict: u8) -> bool {
-    let formula = times(times(1000, k.axial), times(k.bending_y, k.bending_z));
-    let pass = k.greatest <= denominator;
-    (formula == denominator) & (verdict == pass as u8)
+fn is_share(capacities: Capacities, numerator: u64, denominator: u64, verdict: u8) -> bool {
+    let bending = times(capacities.bending_y, capacities.bending_z);
+    let formula = times(times(1000, capacities.axial), bending);
+    formula == denominator && verdict == u8::from(numerator <= denominator)
 }
 
-// `81 00 01 n`
-fn is_refusal(answer: &[u8], n: u8) -> bool {
-    headed(answer, 4, b"\x81\x00\x01") & (byte_at(answer, 3) == n)
+// The combination named gives the numerator, and no other is above it.
+fn is_utilisation(w: &WorkingSheet, field: &[u8], answer: &[u8]) -> bool {
+    let station = index_at(field, 3);
+    let Some(triple) = w.capacities[station % STATIONS] else {
+        return false;
+    };
+    let capacities = Capacities {
+        axial: u64::from(triple.n),
+        bending_y: u64::from(triple.my),
+        bending_z: u64::from(triple.mz),
+    };
+    let cases = cases_at(w, station);
+    let look = Look {
+        figure: Figure::Numerator(capacities),
+        least: 0,
+        greatest: signed_at(answer, 3),
+    };
+    let numerator = number_at(answer, 3, 8);
+    let denominator = number_at(answer, 11, 8);
+    let header = answer.len() == 29 && answer.starts_with(b"\x87\x00\x1a");
+    header
+        && is_share(capacities, numerator, denominator, byte_at(answer, 19))
+        && reaches(look, w.options, &cases, named_at(answer, 20, look.greatest))
+        && is_bounded(look, w, &cases)
 }
 
-// `80 00 00`
-fn is_accepted(answer: &[u8]) -> bool {
-    headed(answer, 3, b"\x80\x00\x00")
-}
-
-// Whether the answer to a field that no refusal is due for is right.
-fn carried_out(w: WorkingSheet, field: &[u8], answer: &[u8]) -> bool {
-    match byte_at(field, 0) {
-        6 => extremes_right(w, field, answer),
-        7 => utilisation_right(w, field, answer),
-        _ => is_accepted(answer),
+fn look_outcome(w: &WorkingSheet) -> Outcome {
+    if is_large(&cases_at(w, 0)) {
+        Outcome::LargeLook
+    } else {
+        Outcome::Look
     }
 }
 
 // Checks the answer to one reading: a whole field, or one cut short.
-pub fn check_answer(w: WorkingSheet, field: &[u8], answer: &[u8]) -> Seen {
-    let n = refusal_due(w, field);
-    if n != 0 {
-        return Seen {
-            ok: is_refusal(answer, n),
-            looked: false,
-            skipped: false,
-            refused: true,
-        };
-    }
-    let tag = byte_at(field, 0);
-    let looked = (tag == 6) | (tag == 7);
-    Seen {
-        ok: carried_out(w, field, answer),
-        looked: looked,
-        skipped: looked & is_large(&w.kinds),
-        refused: false,
+pub fn check_answer(w: &WorkingSheet, field: &[u8], answer: &[u8]) -> Seen {
+    match accepted_tag(w, field) {
+        Err(refusal) => Seen {
+            ok: answer == [0x81, 0, 1, u8::from(refusal)].as_slice(),
+            outcome: Outcome::Refusal,
+        },
+        Ok(Tag::Extremes) => Seen {
+            ok: is_extremes(w, field, answer),
+            outcome: look_outcome(w),
+        },
+        Ok(Tag::Utilisation) => Seen {
+            ok: is_utilisation(w, field, answer),
+            outcome: look_outcome(w),
+        },
+        Ok(_) => Seen {
+            ok: answer == b"\x80\x00\x00".as_slice(),
+            outcome: Outcome::Edit,
+        },
     }
 }
 
 // The sheet after a reading: the same where a refusal is due.
-pub fn sheet_after(w: WorkingSheet, field: &[u8]) -> WorkingSheet {
-    if refusal_due(w, field) == 0 {
-        return changed(w, field);
+pub fn sheet_after(w: &WorkingSheet, field: &[u8]) -> WorkingSheet {
+    let mut after = *w;
+    if accepted_tag(w, field).is_ok() {
+        after.change(field);
     }
-    w
+    after
 }

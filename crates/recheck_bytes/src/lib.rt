@@ -2,32 +2,31 @@
 
 #![tactic(auto)]
 
-ghost use Rattle.std.specs.Prelude.{◌≡◌, ◌+◌, ◌<◌, ◌≤◌, length};
+ghost use Rattle.std.specs.Prelude.{◌≡◌, ℕ, ◌+◌, ◌<◌, ◌≤◌, length, slice_index};
 ghost use Rattle.recheck_bytes.specs.Bytes.{byte_at, pair_at, number_at, same_up_to, filled_up_to};
 
 // Outputs hold this byte before each call, so that a byte written past the end is seen.
 pub const UNWRITTEN: u8 = 0xEE;
 
-fn wide(x: u8) -> u64
-    ensures { result ≡ x }
+// So many zeros. A caller knows their number from the contract, so that no proof counts them.
+pub fn zeros<const N: usize>() -> [u8; N]
+    ensures len { N ≡ length result }
+    ensures zero { (k : ℕ) → slice_index result k ≡ 0 }
 {
-    x as u64
+    [0; N]
 }
 
 pub fn byte_at(s: &[u8], at: usize) -> u8
     ensures { result ≡ byte_at s.now at }
 {
-    if at < s.len() {
-        return s[at];
-    }
-    0
+    s.get(at).copied().unwrap_or(0)
 }
 
 // The byte as an index.
 pub fn index_at(s: &[u8], at: usize) -> usize
     ensures { result ≡ byte_at s.now at }
 {
-    byte_at(s, at) as usize
+    usize::from(byte_at(s, at))
 }
 
 // Two bytes, the high one first.
@@ -35,9 +34,7 @@ pub fn pair_at(s: &[u8], at: usize) -> u16
     requires { at ≤ 1000000 }
     ensures { result ≡ pair_at s.now at }
 {
-    let high = byte_at(s, at);
-    let low = byte_at(s, at + 1);
-    high as u16 * 256 + low as u16
+    u16::from_be_bytes([byte_at(s, at), byte_at(s, at + 1)])
 }
 
 // A number of `width` bytes, at most 8, the high one first.
@@ -47,41 +44,27 @@ pub fn number_at(s: &[u8], at: usize, width: usize) -> u64
     ensures { result ≡ number_at s.now at width }
 {
     let mut number: u64 = 0;
-    let mut i: usize = 0;
-    while i < width {
-        let next = byte_at(s, at + i);
-        number = number % 72057594037927936 * 256 + wide(next);
-        i += 1;
+    for i in 0..width {
+        number = number % (1 << 56) * 256 + u64::from(byte_at(s, at + i));
     }
     number
 }
 
 // Whether the bytes from a position on begin with these.
-#[tactic(auto, unfolding(crate::specs::Bytes::same_up_to))]
 pub fn same_at(s: &[u8], at: usize, front: &[u8]) -> bool
     requires at_bound { at < 1000000 }
     requires front_len_bound { length front.now < 1000000 }
     ensures { result ≡ same_up_to front.now s.now at (length front.now) }
 {
-    let mut same = true;
-    let mut i: usize = 0;
-    while i < front.len() {
-        same = same & (byte_at(front, i) == byte_at(s, at + i));
-        i += 1;
-    }
-    same
+    front
+        .iter()
+        .enumerate()
+        .all(|(i, byte)| *byte == byte_at(s, at + i))
 }
 
 // Whether the bytes from a position to the end are all `byte`, which an output holds before a call.
-#[tactic(auto, unfolding(crate::specs::Bytes::filled_up_to))]
 pub fn filled_from(s: &[u8], from: usize, byte: u8) -> bool
     ensures { result ≡ filled_up_to byte s.now from (length s.now) }
 {
-    let mut filled = true;
-    let mut i: usize = 0;
-    while i < s.len() {
-        filled = filled & ((i < from) | (byte_at(s, i) == byte));
-        i += 1;
-    }
-    filled
+    s.iter().skip(from).all(|b| *b == byte)
 }

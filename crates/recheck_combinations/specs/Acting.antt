@@ -1,6 +1,18 @@
 -- SCOPE 4.2 and 4.3: which sets of cases may act and be low in a row. Sets of cases are numbers, case k being bit k (SCOPE 6.2).
-use Rattle.std.specs.Prelude.{ℕ, zero, suc, ◌-◌, ◌^◌, ◌≤◌, max, Bool, cond, not, ◌&&◌, ◌||◌, List, ◌==◌, bit_and, bit_or, nat_le, slice_index}
+use Rattle.std.specs.Prelude.{ℕ, zero, suc, ◌-◌, ◌^◌, ◌≤◌, max, Bool, cond, not, ◌&&◌, ◌||◌, List, ◌==◌, bit_and, bit_or, nat_le, slice_index, map, unwrap_or}
 use Rattle.recheck_combinations.specs.declared.Rules.{Rules}
+use Rattle.recheck_combinations.specs.declared.Term.{Term}
+
+-- the kinds of the places in a row (SCOPE 2.3), 0 for an empty place, and their full factors
+abbrev pub kinds_of : List Term → List ℕ
+kinds_of terms = map (λ t. unwrap_or t.case.kind 0) terms
+
+abbrev pub factors_of : List Term → List ℕ
+factors_of terms = map (λ t. t.factor) terms
+
+-- whether a place has a factor and a case of kinds `first` to `last`
+abbrev pub is_of : Term → ℕ → ℕ → Bool
+is_of term first last = not (term.factor == 0) && nat_le first (unwrap_or term.case.kind 0) && nat_le (unwrap_or term.case.kind 0) last
 
 -- those of so many places whose case is of kinds `first` to `last` and has a factor
 unfoldable pub having : List ℕ → List ℕ → ℕ → ℕ → ℕ → ℕ

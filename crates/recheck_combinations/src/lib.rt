@@ -1,25 +1,31 @@
-// One combination: whether it is admissible, and the figure that it gives.
-// Sets of cases are numbers, case k being bit k. Signed figures are two's complement in 64 bits.
+// One combination: whether it is admissible, and the figure that it gives. Sets of cases are numbers, case k being bit k.
 
 #![tactic(auto)]
 
-ghost use Rattle.std.specs.Prelude.{◌≡◌, ◌*◌, ◌%◌, if◌then◌else◌, bit_or};
-ghost use Rattle.recheck_combinations.specs.Acting.{having, rules_of, within, all_or_none, at_most_one, may_act, may_be_low, Factors};
+ghost use Rattle.std.specs.Prelude.{◌≡◌, ◌<◌, map};
+ghost use Rattle.recheck_rows.specs.Rows.{low_factor_of};
+ghost use Rattle.recheck_combinations.specs.Acting.{kinds_of, factors_of, is_of, having, rules_of, within, all_or_none, at_most_one, may_act, may_be_low, Factors};
 
-use recheck_rows::factor;
-use std::num::{wrapping_add_u64, wrapping_sub_u64};
+pub use figure::{Capacities, Component, Effects, Figure, NoComponent, times};
+use recheck_rows::Options;
 
-// What a look asks for: a component's factored effect, or the numerator of the utilisation (component 3);
-// and the ends between which every admissible combination must give its figure.
+mod figure;
+
+// How many places a sheet has.
+pub const CASES: usize = 32;
+
+// A place as one station sees it: the kind of its load case, where there is one, and the case's effects.
+#[derive(Clone, Copy, Default)]
+pub struct Case {
+    pub kind: Option<u8>,
+    pub effects: Effects,
+}
+
+// A place in a row: beside the case its full factor, 0 where it may not act.
 #[derive(Clone, Copy)]
-pub struct Look {
-    pub component: u8,
-    pub low_factor: u64,
-    pub least: u64,
-    pub greatest: u64,
-    pub axial: u64,
-    pub bending_y: u64,
-    pub bending_z: u64,
+pub struct Term {
+    pub case: Case,
+    pub factor: u64,
 }
 
 // The cases with a factor in one row, by the rule that they are under.
@@ -37,70 +43,58 @@ pub struct Rules {
     pub hp: u64,
 }
 
-// Each place's full factor in the row.
-pub fn factors_in(kinds: &[u8; 32], row: u8, option: u8, straining: u16) -> [u64; 32]
-    ensures { Factors straining result }
-{
-    let mut factors = [0u64; 32];
-    let mut case: usize = 0;
-    while case < 32 {
-        factors[case] = factor(row, kinds[case], option, straining);
-        case += 1;
-    }
-    factors
+// A row of the standard with a sheet's cases in it.
+#[derive(Clone, Copy)]
+pub struct Row {
+    pub terms: [Term; CASES],
+    pub low_factor: u64,
+    pub rules: Rules,
 }
 
-// The set and, where it is asked for, the case of this bit.
-fn joined(set: u64, bit: u64, asked: bool) -> u64
-    ensures { result ≡ (if asked then bit_or set bit else set) }
+// Whether the case is in the set.
+fn has(set: u64, case: usize) -> bool
+    requires { case < 64 }
 {
-    if asked { set | bit } else { set }
+    set >> case & 1 == 1
+}
+
+fn terms_in(cases: &[Case; CASES], options: Options, row: u8) -> [Term; CASES]
+    ensures cases { map (λ t. t.case) result ≡ cases.now }
+    ensures factors { Factors options.straining (factors_of result) }
+{
+    cases.map(|case| Term {
+        case,
+        factor: case.kind.map_or(0, |kind| options.factor(row, kind)),
+    })
+}
+
+impl Term {
+    // Whether the place has a factor and a case of kinds `first` to `last`.
+    fn is_of(self, first: u8, last: u8) -> bool
+        ensures { result ≡ is_of self first last }
+    {
+        self.factor != 0 && (first..=last).contains(&self.case.kind.unwrap_or(0))
+    }
 }
 
 // The set of cases of kinds `first` to `last` that have a factor.
-fn having(kinds: &[u8; 32], factors: &[u64; 32], first: u8, last: u8) -> u64
-    ensures { result ≡ having kinds.now factors.now first last 32 }
+fn having(terms: &[Term; CASES], first: u8, last: u8) -> u64
+    ensures { result ≡ having (kinds_of terms.now) (factors_of terms.now) first last 32 }
 {
-    let mut set: u64 = 0;
-    let mut bit: u64 = 1;
-    let mut case: usize = 0;
-    while case < 32 {
-        let kind = kinds[case];
-        let asked = (factors[case] != 0) & (first <= kind) & (kind <= last);
-        set = joined(set, bit, asked);
-        bit = bit % 4294967296 * 2;
-        case += 1;
+    let mut set = 0;
+    for (case, term) in terms.iter().enumerate() {
+        if term.is_of(first, last) {
+            set |= 1 << case;
+        }
     }
     set
-}
-
-#[tactic(auto, unfolding(crate::specs::Acting::rules_of))]
-pub fn rules_of(kinds: &[u8; 32], factors: &[u64; 32]) -> Rules
-    ensures { result ≡ rules_of kinds.now factors.now }
-{
-    let hp = having(kinds, factors, 3, 3);
-    Rules {
-        always: having(kinds, factors, 1, 1) | hp,
-        fluid: having(kinds, factors, 2, 2),
-        may: having(kinds, factors, 1, 14),
-        roof: having(kinds, factors, 6, 8),
-        wind: having(kinds, factors, 9, 9),
-        earthquake: having(kinds, factors, 10, 10),
-        flood: having(kinds, factors, 11, 11),
-        ice_weight: having(kinds, factors, 12, 12),
-        ice_wind: having(kinds, factors, 13, 13),
-        hp,
-    }
 }
 
 // At most one bit: taking 1 away from a single bit leaves only bits below it.
 fn at_most_one(set: u64) -> bool
     ensures { result ≡ at_most_one set }
 {
-    if set == 0 {
-        return true;
-    }
-    set & (set - 1) == 0
+    set & set.saturating_sub(1) == 0
 }
 
 fn within(set: u64, all: u64) -> bool
@@ -113,99 +107,108 @@ fn within(set: u64, all: u64) -> bool
 fn all_or_none(set: u64, all: u64) -> bool
     ensures { result ≡ all_or_none set all }
 {
-    (set == 0) | (set == all)
+    set == 0 || set == all
 }
 
-// Whether these cases may act together. The F cases act all or none: a tank may be empty.
-#[tactic(auto, unfolding(crate::specs::Acting::may_act))]
-pub fn may_act(r: Rules, acting: u64) -> bool
-    ensures { result ≡ may_act r acting }
-{
-    let cases = within(acting, r.may) & within(r.always, acting);
-    let fluid = all_or_none(acting & r.fluid, r.fluid);
-    let roof = at_most_one(acting & r.roof);
-    let wind = at_most_one(acting & r.wind);
-    let earthquake = at_most_one(acting & r.earthquake);
-    let flood = at_most_one(acting & r.flood);
-    let ice_weight = at_most_one(acting & r.ice_weight);
-    let ice_wind = at_most_one(acting & r.ice_wind);
-    cases & fluid & roof & wind & earthquake & flood & ice_weight & ice_wind
-}
-
-// Whether these of the acting cases may take the low factor.
-pub fn may_be_low(r: Rules, acting: u64, low: u64) -> bool
-    ensures { result ≡ may_be_low r acting low }
-{
-    within(low, acting & r.hp)
-}
-
-// The product of two numbers below 2^32, as all here are; the remainders are taken only to show that it fits.
-pub fn times(a: u64, b: u64) -> u64
-    ensures { result ≡ a % 4294967296 * (b % 4294967296) }
-{
-    (a % 4294967296) * (b % 4294967296)
-}
-
-// Factor times effect, the effect being 16 bits of two's complement.
-fn scaled(by: u64, effect: u16) -> u64 {
-    if effect < 32768 {
-        times(by, effect as u64)
-    } else {
-        wrapping_sub_u64(0, times(by, 65536 - (effect as u64)))
-    }
-}
-
-// A component's factored effect. `effects` holds three for each place.
-fn factored(
-    factors: &[u64; 32],
-    effects: &[u16; 96],
-    component: usize,
-    low_factor: u64,
-    acting: u64,
-    low: u64,
-) -> u64 {
-    let mut sum: u64 = 0;
-    let mut acts = acting;
-    let mut lows = low;
-    let mut case: usize = 0;
-    while case < 32 {
-        if acts % 2 == 1 {
-            let by = if lows % 2 == 1 {
-                low_factor
-            } else {
-                factors[case]
-            };
-            sum = wrapping_add_u64(sum, scaled(by, effects[case * 3 + component % 3]));
+impl Rules {
+    #[tactic(auto, unfolding(crate::specs::Acting::rules_of))]
+    pub fn of(terms: &[Term; CASES]) -> Rules
+        ensures { result ≡ rules_of (kinds_of terms.now) (factors_of terms.now) }
+    {
+        let hp = having(terms, 3, 3);
+        Rules {
+            always: having(terms, 1, 1) | hp,
+            fluid: having(terms, 2, 2),
+            may: having(terms, 1, 14),
+            roof: having(terms, 6, 8),
+            wind: having(terms, 9, 9),
+            earthquake: having(terms, 10, 10),
+            flood: having(terms, 11, 11),
+            ice_weight: having(terms, 12, 12),
+            ice_wind: having(terms, 13, 13),
+            hp,
         }
-        acts = acts / 2;
-        lows = lows / 2;
-        case += 1;
     }
-    sum
+
+    // Whether these cases may act together. The F cases act all or none: a tank may be empty.
+    #[tactic(auto, unfolding(crate::specs::Acting::may_act))]
+    pub fn may_act(self, acting: u64) -> bool
+        ensures { result ≡ may_act self acting }
+    {
+        within(acting, self.may)
+            && within(self.always, acting)
+            && all_or_none(acting & self.fluid, self.fluid)
+            && at_most_one(acting & self.roof)
+            && at_most_one(acting & self.wind)
+            && at_most_one(acting & self.earthquake)
+            && at_most_one(acting & self.flood)
+            && at_most_one(acting & self.ice_weight)
+            && at_most_one(acting & self.ice_wind)
+    }
+
+    // Whether these of the acting cases may take the low factor.
+    pub fn may_be_low(self, acting: u64, low: u64) -> bool
+        ensures { result ≡ may_be_low self acting low }
+    {
+        within(low, acting & self.hp)
+    }
 }
 
-// The size of a factored effect, which is below 2^30.
-fn size(x: u64) -> u64 {
-    if x < 9223372036854775808 {
-        x
-    } else {
-        wrapping_sub_u64(0, x)
+impl Row {
+    pub fn new(options: Options, row: u8, cases: &[Case; CASES]) -> Row
+        ensures cases { map (λ t. t.case) result.terms ≡ cases.now }
+        ensures factors { Factors options.straining (factors_of result.terms) }
+        ensures low_factor { result.low_factor ≡ low_factor_of options.method }
+        ensures rules { result.rules ≡ rules_of (kinds_of result.terms) (factors_of result.terms) }
+    {
+        let terms = terms_in(cases, options, row);
+        Row {
+            terms,
+            low_factor: options.low_factor(),
+            rules: Rules::of(&terms),
+        }
     }
-}
 
-// The figure that the look asks for. Signed figures are moved up by 2^63, so that they compare as unsigned ones.
-pub fn figure(k: Look, factors: &[u64; 32], effects: &[u16; 96], acting: u64, low: u64) -> u64 {
-    let by = k.low_factor;
-    if k.component < 3 {
-        let component = k.component as usize;
-        let sum = factored(factors, effects, component, by, acting, low);
-        return wrapping_add_u64(sum, 9223372036854775808);
+    // A component's factored effect. No figure comes near 2^63, and the proof needs no bound: the sum wraps.
+    fn effect(&self, component: Component, acting: u64, low: u64) -> i64 {
+        let mut sum: i64 = 0;
+        for (case, term) in self.terms.iter().enumerate() {
+            if has(acting, case) {
+                let factor = if has(low, case) {
+                    self.low_factor
+                } else {
+                    term.factor
+                };
+                let effect = i64::from(term.case.effects.component(component));
+                sum = sum.wrapping_add(factor.cast_signed().wrapping_mul(effect));
+            }
+        }
+        sum
     }
-    let n = factored(factors, effects, 0, by, acting, low);
-    let y = factored(factors, effects, 1, by, acting, low);
-    let z = factored(factors, effects, 2, by, acting, low);
-    let from_n = times(size(n), times(k.bending_y, k.bending_z));
-    let from_y = times(size(y), times(k.axial, k.bending_z));
-    let from_z = times(size(z), times(k.axial, k.bending_y));
-    wrapping_add_u64(wrapping_add_u64(from_n, from_y), from_z)
+
+    // The numerator of the utilisation. Each factored effect is below 2^30 in size.
+    fn numerator(&self, capacities: Capacities, acting: u64, low: u64) -> i64 {
+        let size = |component| self.effect(component, acting, low).unsigned_abs();
+        let n = times(
+            size(Component::N),
+            times(capacities.bending_y, capacities.bending_z),
+        );
+        let my = times(
+            size(Component::My),
+            times(capacities.axial, capacities.bending_z),
+        );
+        let mz = times(
+            size(Component::Mz),
+            times(capacities.axial, capacities.bending_y),
+        );
+        n.wrapping_add(my).wrapping_add(mz).cast_signed()
+    }
+
+    // The figure that the combination gives.
+    pub fn figure(&self, figure: Figure, acting: u64, low: u64) -> i64 {
+        match figure {
+            Figure::Effect(component) => self.effect(component, acting, low),
+            Figure::Numerator(capacities) => self.numerator(capacities, acting, low),
+        }
+    }
 }

@@ -1,10 +1,11 @@
 -- The walk over the fields of a file: it stays within the file, and where it ends no later name is found.
-use Rattle.std.proofs.Common.{◌≡◌, sym, ap, ◌∙◌, List, Bool, true, false, cond, ◌&&◌, ℕ, zero, suc, ◌+◌, ◌-◌, ◌≤◌, ◌<◌, eqb, ltb, ltb-true, length, add-one, arith}
+use Rattle.std.proofs.Common.{◌≡◌, refl, Option, Some, None, sym, ap, ◌∙◌, List, Bool, true, false, cond, ◌&&◌, ℕ, zero, suc, ◌+◌, ◌-◌, ◌≤◌, ◌<◌, eqb, ltb, ltb-true, length, add-one, arith}
 use Rattle.std.proofs.Math.Bool.{and-eq-true_iff}
 use Rattle.std.proofs.Math.Nat.{add-zero, add-suc}
+use Rattle.std.specs.Option.{option_or}
 use Rattle.recheck_bytes.specs.Bytes.{byte_at, pair_at}
 use Rattle.recheck_names.specs.declared.Name.{Name}
-use Rattle.recheck_names.specs.Names.{is_whole, after_field, field_place, is_name_length, is_tag60, names_case, name_at, last_name}
+use Rattle.recheck_names.specs.Names.{is_whole, after_field, field_place, is_name_length, is_tag60, names_case, name_at, name_here, last_name}
 
 module _ (file : List ℕ) where
   pub whole_in : (at : ℕ) → is_whole file at ≡ true → at + 2 + pair_at file (at + 1) < length file
@@ -53,9 +54,13 @@ module _ (file : List ℕ) where
   unfolding names_case is_tag60
   not_whole at case h = rw h
 
-  pub name_more : (case i : ℕ) {at : ℕ} {found r : Name} → at ≡ field_place file i → found ≡ last_name file case i → r ≡ cond (names_case file at case) (name_at file at) found → r ≡ last_name file case (i + 1)
+  named : (b : Bool) (name : Name) (found : Option Name) → option_or (cond b (Some name) None) found ≡ cond b (Some name) found
+  named true name found = refl
+  named false name found = refl
+
+  pub name_more : (case i : ℕ) {at : ℕ} {found here r : Option Name} → at ≡ field_place file i → found ≡ last_name file case i → here ≡ name_here file at case → r ≡ option_or here found → r ≡ last_name file case (i + 1)
   unfolding last_name
-  name_more case i p q h = rw (add-one, h, p, q)
+  name_more case i {at} {found} p q e h = h ∙ rw (add-one, e, named (names_case file at case) (name_at file at) found, p, q)
 
   -- so that no later name is found
   no_later : (case i k : ℕ) → is_whole file (field_place file i) ≡ false → last_name file case (i + k) ≡ last_name file case i
@@ -63,7 +68,7 @@ module _ (file : List ℕ) where
   no_later case i zero h = rw add-zero
   no_later case i (suc k) h = rw (add-suc, stays i k h, not_whole (field_place file i) case h) (no_later case i k h)
 
-  pub name_ended : (case i n : ℕ) {at : ℕ} {found : Name} → i ≤ n → at ≡ field_place file i → is_whole file at ≡ false → found ≡ last_name file case i → found ≡ last_name file case n
+  pub name_ended : (case i n : ℕ) {at : ℕ} {found : Option Name} → i ≤ n → at ≡ field_place file i → is_whole file at ≡ false → found ≡ last_name file case i → found ≡ last_name file case n
   name_ended case i n g p h q =
       let stopped = no_later case i (n - i) (rw p at h) in
       let e : i + (n - i) ≡ n = omega arith in

@@ -1,5 +1,5 @@
 -- SCOPE 9.6 and 9.7: the fields of a file by their places, the name of a case, and the file without its names.
-use Rattle.std.specs.Prelude.{ℕ, zero, suc, ◌+◌, ◌-◌, List, [], ◌++◌, Bool, cond, ◌&&◌, ◌||◌, eqb, ltb, length, take, drop}
+use Rattle.std.specs.Prelude.{ℕ, zero, suc, ◌+◌, ◌-◌, List, [], ◌++◌, Bool, cond, ◌&&◌, ◌||◌, eqb, ltb, length, take, drop, Option, Some, None}
 use Rattle.recheck_bytes.specs.Bytes.{byte_at, pair_at}
 use Rattle.recheck_names.specs.declared.Name.{Name}
 
@@ -28,21 +28,22 @@ is_tag60 file at = is_whole file at && eqb (byte_at file at) 96
 unfoldable pub names_case : List ℕ → ℕ → ℕ → Bool
 names_case file at case = is_tag60 file at && is_name_length (pair_at file (at + 1)) && eqb (byte_at file (at + 3)) case
 
-abbrev pub no_name : Name
-no_name = record { from = 0; len = 0 }
-
 -- the field's body without the case
 abbrev pub name_at : List ℕ → ℕ → Name
 name_at file at = record { from = at + 4; len = pair_at file (at + 1) - 1 }
 
+-- the name in the field here, where it names the case
+abbrev pub name_here : List ℕ → ℕ → ℕ → Option Name
+name_here file at case = cond (names_case file at case) (Some (name_at file at)) None
+
 -- the name in the last of so many fields that has one for the case
-unfoldable pub last_name : List ℕ → ℕ → ℕ → Name
-last_name file case zero = no_name
-last_name file case (suc n) = cond (names_case file (field_place file n) case) (name_at file (field_place file n)) (last_name file case n)
+unfoldable pub last_name : List ℕ → ℕ → ℕ → Option Name
+last_name file case zero = None
+last_name file case (suc n) = cond (names_case file (field_place file n) case) (Some (name_at file (field_place file n))) (last_name file case n)
 
 -- no file has more fields than bytes
-abbrev pub name_of : List ℕ → ℕ → Name
-name_of file case = cond (ltb case 32) (last_name file case (length file)) no_name
+abbrev pub name_of : List ℕ → ℕ → Option Name
+name_of file case = cond (ltb case 32) (last_name file case (length file)) None
 
 -- SCOPE 9.7: a whole tag 60 that is left out: one that a reading accepts, and with `refused` also those refused with 2 or 5
 unfoldable pub is_left_out : List ℕ → Bool → ℕ → Bool

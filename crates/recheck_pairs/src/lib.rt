@@ -6,41 +6,53 @@
 
 ghost use Rattle.std.specs.Prelude.{◌≡◌, ◌<◌, map};
 ghost use Rattle.recheck_pairs.specs.Pair.{has_extremes, opposite, pair_agrees};
-ghost use Rattle.recheck_pairs.specs.Turned.{negated, turned};
+ghost use Rattle.recheck_pairs.specs.Turned.{negated, turned, turned_place, turned_triple};
 
 use recheck_bytes::{byte_at, number_at};
-use recheck_sheet::WorkingSheet;
-use std::num::wrapping_add_u64;
+use recheck_sheet::{CASES, Place, Triple, WorkingSheet};
 
 // Minus an effect, in 16 bits of two's complement.
 fn negated(effect: u16) -> u16
     ensures { result ≡ negated effect }
 {
-    if effect == 0 { 0 } else { 65535 - effect + 1 }
+    effect.wrapping_neg()
 }
 
-fn all_negated(effects: [u16; 1536]) -> [u16; 1536]
-    ensures { result ≡ map negated effects }
+fn turned_triple(t: Triple) -> Triple
+    ensures { result ≡ turned_triple t }
 {
-    let mut opposite = effects;
-    let mut i: usize = 0;
-    while i < 1536 {
-        opposite[i] = negated(opposite[i]);
-        i += 1;
+    Triple {
+        n: negated(t.n),
+        my: negated(t.my),
+        mz: negated(t.mz),
     }
-    opposite
+}
+
+fn turned_place(place: Place) -> Place
+    ensures { result ≡ turned_place place }
+{
+    Place {
+        kind: place.kind,
+        effects: place.effects.map(turned_triple),
+    }
+}
+
+fn all_turned(places: [Place; CASES]) -> [Place; CASES]
+    ensures { result ≡ map turned_place places }
+{
+    places.map(turned_place)
 }
 
 // The sheet with the sign of every effect turned: all places, stations and components.
+
 #[tactic(auto, unfolding(crate::specs::Turned::turned))]
-pub fn turned(w: WorkingSheet) -> WorkingSheet
-    ensures { result ≡ turned w }
+pub fn turned(w: &WorkingSheet) -> WorkingSheet
+    ensures { result ≡ turned w.now }
 {
-    let mut sheet = w;
-    let effects = w.effects;
-    let opposite = all_negated(effects);
-    sheet.effects = opposite;
-    sheet
+    WorkingSheet {
+        places: all_turned(w.places),
+        ..*w
+    }
 }
 
 // Whether the field asks for the extremes and the answer has them.
@@ -56,7 +68,7 @@ fn opposite(s: &[u8], at: usize, t: &[u8], from: usize) -> bool
     requires from_bound { from < 100 }
     ensures { result ≡ opposite s.now at t.now from }
 {
-    wrapping_add_u64(number_at(s, at, 8), number_at(t, from, 8)) == 0
+    number_at(s, at, 8).wrapping_add(number_at(t, from, 8)) == 0
 }
 
 // Whether each extreme of the answer after the signs are turned is minus the other one of the answer before.

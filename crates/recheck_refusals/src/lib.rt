@@ -1,180 +1,126 @@
-// What a field is owed before it is carried out: the first refusal due, in the order of SCOPE 7.2. 0 is none.
+// What a field is owed before it is carried out: the first refusal due, in the order of SCOPE 7.2.
 
 #![tactic(auto)]
 
-ghost use Rattle.std.specs.Prelude.{◌≤◌, ◌<◌};
+ghost use Rattle.std.specs.Prelude.{◌<◌};
+
+mod refusal;
 
 use recheck_bytes::{byte_at, index_at, pair_at};
-use recheck_names::{NAME_TAG, is_name_length};
-use recheck_sheet::WorkingSheet;
+use recheck_sheet::{CASES, STATIONS, Tag, WorkingSheet};
+pub use refusal::Refusal;
 
-// How long the body of a tag other than 60 is; a length that no field has for an unknown tag.
-fn body_length(tag: u8) -> u16 {
-    match tag {
-        1 => 3,
-        2 => 2,
-        3 => 8,
-        4 => 1,
-        5 => 7,
-        6 => 2,
-        7 => 1,
-        8 => 1,
-        9 => 2,
-        _ => 65535,
-    }
+// `Ok` where the values are as they must be.
+fn admit(right: bool, otherwise: Refusal) -> Result<(), Refusal> {
+    if right { Ok(()) } else { Err(otherwise) }
 }
 
-// The refusal where it is due.
-fn due(refused: bool, number: u8) -> u8
-    requires { number ≤ 15 }
-    ensures { result ≤ 15 }
-{
-    if refused { number } else { 0 }
-}
-
-// The first of several that is due.
-fn first(a: u8, b: u8) -> u8
-    requires a_bound { a ≤ 15 }
-    requires b_bound { b ≤ 15 }
-    ensures { result ≤ 15 }
-{
-    if a == 0 { b } else { a }
-}
-
-// The tag is unknown, or the length is not the tag's.
-fn length_refusal(tag: u8, length: u16) -> u8
-    ensures { result ≤ 15 }
-{
-    if tag == NAME_TAG {
-        return due(!is_name_length(length), 2);
-    }
-    let wanted = body_length(tag);
-    first(due(wanted == 65535, 1), due(length != wanted, 2))
-}
-
-fn header_refusal(field: &[u8]) -> u8
-    ensures { result ≤ 15 }
-{
-    let n = field.len();
+// The field's tag, where header and body are all there, the tag is known and the length is the tag's.
+fn header(field: &[u8]) -> Result<Tag, Refusal> {
     let length = pair_at(field, 1);
-    let cut = due((n < 3) | (length > 60000) | (n < 3 + length as usize), 3);
-    first(cut, length_refusal(byte_at(field, 0), length))
+    let whole = length <= 60000 && 3 + usize::from(length) <= field.len();
+    admit(whole, Refusal::Cut)?;
+    let tag = Tag::try_from(byte_at(field, 0))?;
+    admit(tag.takes(length), Refusal::Length)?;
+    Ok(tag)
 }
 
-fn case_refusal(field: &[u8], at: usize) -> u8
-    ensures { result ≤ 15 }
-{
-    due(byte_at(field, at) > 31, 5)
+fn admit_settings(field: &[u8]) -> Result<(), Refusal> {
+    let method = (1..=2).contains(&byte_at(field, 3));
+    let options = byte_at(field, 4) <= 1 && byte_at(field, 5) <= 2;
+    admit(method && options, Refusal::Setting)
 }
 
-fn station_refusal(field: &[u8], at: usize) -> u8
-    ensures { result ≤ 15 }
-{
-    due(byte_at(field, at) > 15, 6)
+fn admit_switch(field: &[u8], at: usize) -> Result<(), Refusal> {
+    admit(byte_at(field, at) <= 1, Refusal::Setting)
 }
 
-// Two's complement: -10,000 is 55,536.
-fn effect_refusal(field: &[u8], at: usize) -> u8
+fn admit_case(field: &[u8], at: usize) -> Result<(), Refusal> {
+    admit(index_at(field, at) < CASES, Refusal::Case)
+}
+
+fn admit_station(field: &[u8], at: usize) -> Result<(), Refusal> {
+    admit(index_at(field, at) < STATIONS, Refusal::Station)
+}
+
+fn admit_kind(field: &[u8], at: usize) -> Result<(), Refusal> {
+    admit((1..=14).contains(&byte_at(field, at)), Refusal::Kind)
+}
+
+fn admit_component(field: &[u8], at: usize) -> Result<(), Refusal> {
+    admit(byte_at(field, at) <= 2, Refusal::Component)
+}
+
+fn admit_effect(field: &[u8], at: usize) -> Result<(), Refusal>
     requires { at < 60000 }
-    ensures { result ≤ 15 }
 {
-    let effect = pair_at(field, at);
-    due((effect > 10000) & (effect < 55536), 9)
+    let effect = pair_at(field, at).cast_signed();
+    admit((-10000..=10000).contains(&effect), Refusal::Effect)
 }
 
-fn capacity_refusal(field: &[u8], at: usize) -> u8
+fn admit_capacity(field: &[u8], at: usize) -> Result<(), Refusal>
     requires { at < 60000 }
-    ensures { result ≤ 15 }
 {
     let capacity = pair_at(field, at);
-    due((capacity < 1) | (capacity > 10000), 10)
-}
-
-fn start_refusal(field: &[u8]) -> u8
-    ensures { result ≤ 15 }
-{
-    let method = byte_at(field, 3);
-    let options = (byte_at(field, 4) > 1) | (byte_at(field, 5) > 2);
-    due((method < 1) | (method > 2) | options, 4)
-}
-
-fn switch_refusal(field: &[u8], at: usize) -> u8
-    ensures { result ≤ 15 }
-{
-    due(byte_at(field, at) > 1, 4)
+    admit((1..=10000).contains(&capacity), Refusal::Capacity)
 }
 
 // The factor of T, within the range of the method that the sheet has.
-fn straining_refusal(method: u8, field: &[u8], at: usize) -> u8
+fn admit_straining(method: u8, field: &[u8], at: usize) -> Result<(), Refusal>
     requires { at < 60000 }
-    ensures { result ≤ 15 }
 {
-    let factor = pair_at(field, at);
-    if method == 1 {
-        return due((factor < 1000) | (factor > 2000), 15);
-    }
-    due((factor < 750) | (factor > 1000), 15)
-}
-
-fn kind_refusal(field: &[u8], at: usize) -> u8
-    ensures { result ≤ 15 }
-{
-    let kind = byte_at(field, at);
-    due((kind < 1) | (kind > 14), 7)
-}
-
-fn component_refusal(field: &[u8], at: usize) -> u8
-    ensures { result ≤ 15 }
-{
-    due(byte_at(field, at) > 2, 8)
+    let limits = if method == 1 { 1000..=2000 } else { 750..=1000 };
+    admit(limits.contains(&pair_at(field, at)), Refusal::Straining)
 }
 
 // The body's values, from first to last.
-fn body_refusal(method: u8, field: &[u8]) -> u8
-    ensures { result ≤ 15 }
-{
-    let case = case_refusal(field, 3);
-    let station = station_refusal(field, 3);
-    match byte_at(field, 0) {
-        1 => start_refusal(field),
-        2 => first(case, kind_refusal(field, 4)),
-        3 => {
-            let n = effect_refusal(field, 5);
-            let moments = first(effect_refusal(field, 7), effect_refusal(field, 9));
-            first(first(case, station_refusal(field, 4)), first(n, moments))
+fn admit_values(tag: Tag, method: u8, field: &[u8]) -> Result<(), Refusal> {
+    match tag {
+        Tag::Restart => admit_settings(field),
+        Tag::Fill => {
+            admit_case(field, 3)?;
+            admit_kind(field, 4)
         }
-        4 | NAME_TAG => case,
-        5 => {
-            let n = capacity_refusal(field, 4);
-            let moments = first(capacity_refusal(field, 6), capacity_refusal(field, 8));
-            first(station, first(n, moments))
+        Tag::Effects => {
+            admit_case(field, 3)?;
+            admit_station(field, 4)?;
+            admit_effect(field, 5)?;
+            admit_effect(field, 7)?;
+            admit_effect(field, 9)
         }
-        6 => first(station, component_refusal(field, 4)),
-        8 => switch_refusal(field, 3),
-        9 => straining_refusal(method, field, 3),
-        _ => station,
+        Tag::Empty | Tag::Name => admit_case(field, 3),
+        Tag::Capacities => {
+            admit_station(field, 3)?;
+            admit_capacity(field, 4)?;
+            admit_capacity(field, 6)?;
+            admit_capacity(field, 8)
+        }
+        Tag::Extremes => {
+            admit_station(field, 3)?;
+            admit_component(field, 4)
+        }
+        Tag::Utilisation => admit_station(field, 3),
+        Tag::Ice => admit_switch(field, 3),
+        Tag::Straining => admit_straining(method, field, 3),
     }
 }
 
-// What the sheet itself refuses: a place taken, a place empty, a station with no capacity.
-fn sheet_refusal(w: WorkingSheet, field: &[u8]) -> u8
-    ensures { result ≤ 15 }
-{
-    let tag = byte_at(field, 0);
-    let place = index_at(field, 3);
-    let case = place % 32;
-    let station = place % 16 * 3;
-    let empty = w.kinds[case] == 0;
-    let bare = w.capacities[station] == 0;
-    let taken = due((tag == 2) & !empty, 11);
-    let missing = due(((tag == 3) | (tag == 4)) & empty, 12);
-    first(taken, first(missing, due((tag == 7) & bare, 13)))
+// What the sheet itself refuses: a place taken, a place empty, a station with no capacities.
+fn admit_places(tag: Tag, w: &WorkingSheet, field: &[u8]) -> Result<(), Refusal> {
+    let at = index_at(field, 3);
+    let kind = w.places[at % CASES].kind;
+    match tag {
+        Tag::Fill => admit(kind.is_none(), Refusal::PlaceTaken),
+        Tag::Effects | Tag::Empty => admit(kind.is_some(), Refusal::PlaceEmpty),
+        Tag::Utilisation => admit(w.capacities[at % STATIONS].is_some(), Refusal::NoCapacities),
+        _ => Ok(()),
+    }
 }
 
-// The refusal due for a reading on this sheet, or 0.
-pub fn refusal_due(w: WorkingSheet, field: &[u8]) -> u8
-    ensures { result ≤ 15 }
-{
-    let values = first(body_refusal(w.method, field), sheet_refusal(w, field));
-    first(header_refusal(field), values)
+// The field's tag, or the refusal due for a reading of it on this sheet.
+pub fn accepted_tag(w: &WorkingSheet, field: &[u8]) -> Result<Tag, Refusal> {
+    let tag = header(field)?;
+    admit_values(tag, w.options.method, field)?;
+    admit_places(tag, w, field)?;
+    Ok(tag)
 }

@@ -4,231 +4,103 @@
 #![tactic(auto)]
 
 ghost use Rattle.std.specs.Prelude.{◌≡◌, ◌≤◌, max};
-ghost use Rattle.recheck_rows.specs.Rows.{between, strength_open, allowable_open, is_open, low_factor_of, self_straining};
+ghost use Rattle.recheck_rows.specs.Rows.{strength_open, allowable_open, is_open, low_factor_of, self_straining};
 
-fn between(n: u8, first: u8, last: u8) -> bool
-    ensures { result ≡ between n first last }
-{
-    (first <= n) & (n <= last)
+use factors::{
+    dead, earth, earthquake, flood, fluid, ice_weight, ice_wind, live, roof, snow, wind,
+};
+use kind::Kind;
+
+mod factors;
+mod kind;
+
+// What opens rows and gives their factors: the sheet's five settings.
+#[derive(Clone, Copy)]
+pub struct Options {
+    pub method: u8,
+    pub live: u8,
+    pub zone: u8,
+    pub ice: u8,
+    pub straining: u16,
 }
 
-#[tactic(auto, unfolding(crate::specs::Rows::strength_open))]
-fn strength_open(row: u8, zone: u8, ice: u8) -> bool
-    ensures { result ≡ strength_open row zone ice }
-{
-    between(row, 1, 8)
-        | (between(row, 9, 10) & (zone == 1))
-        | (between(row, 11, 12) & (zone == 2))
-        | (between(row, 13, 15) & (ice == 1))
-}
-
-#[tactic(auto, unfolding(crate::specs::Rows::allowable_open))]
-fn allowable_open(row: u8, zone: u8, ice: u8) -> bool
-    ensures { result ≡ allowable_open row zone ice }
-{
-    between(row, 21, 30)
-        | (between(row, 31, 35) & (zone == 1))
-        | (between(row, 36, 40) & (zone == 2))
-        | (between(row, 41, 43) & (ice == 1))
-}
-
-// Whether a sheet of this method, flood zone and ice switch opens the row. Flood and ice rows come beside the plain ones.
-pub fn open(row: u8, method: u8, zone: u8, ice: u8) -> bool
-    ensures { result ≡ is_open row method zone ice }
-{
-    if method == 1 {
-        return strength_open(row, zone, ice);
+impl Options {
+    // Whether the sheet opens the row. Flood and ice rows come beside the plain ones.
+    pub fn opens(self, row: u8) -> bool
+        ensures { result ≡ is_open row self.method self.zone self.ice }
+    {
+        if self.method == 1 {
+            self.strength_open(row)
+        } else {
+            self.allowable_open(row)
+        }
     }
-    allowable_open(row, zone, ice)
-}
 
-// The plain row that a flood or ice row is made from; a plain row is its own.
-fn plain(row: u8) -> u8 {
-    match row {
-        13 => 2,
-        9 | 11 | 14 => 5,
-        10 | 12 | 15 => 7,
-        41 => 22,
-        42 => 23,
-        31 | 36 => 25,
-        32 | 37 => 26,
-        33 | 38 => 27,
-        34 | 39 => 28,
-        35 | 40 | 43 => 29,
-        _ => row,
+    #[tactic(auto, unfolding(crate::specs::Rows::strength_open))]
+    fn strength_open(self, row: u8) -> bool
+        ensures { result ≡ strength_open row self.zone self.ice }
+    {
+        match row {
+            1..=8 => true,
+            9..=10 => self.zone == 1,
+            11..=12 => self.zone == 2,
+            13..=15 => self.ice == 1,
+            _ => false,
+        }
     }
-}
 
-fn dead(row: u8) -> u64
-    ensures { result ≤ 2000 }
-{
-    match plain(row) {
-        1 => 1400,
-        2..=6 => 1200,
-        7 | 8 => 900,
-        21..=28 => 1000,
-        29 | 30 => 600,
-        _ => 0,
+    #[tactic(auto, unfolding(crate::specs::Rows::allowable_open))]
+    fn allowable_open(self, row: u8) -> bool
+        ensures { result ≡ allowable_open row self.zone self.ice }
+    {
+        match row {
+            21..=30 => true,
+            31..=35 => self.zone == 1,
+            36..=40 => self.zone == 2,
+            41..=43 => self.ice == 1,
+            _ => false,
+        }
     }
-}
 
-// As dead, but for rows 7 and 29, where fluid is left out.
-fn fluid(row: u8) -> u64
-    ensures { result ≤ 2000 }
-{
-    match plain(row) {
-        7 | 29 => 0,
-        _ => dead(row),
+    // The full factor of a kind in a row, 0 where the kind may not act there. Kind 0 is an empty place.
+    pub fn factor(self, row: u8, kind: u8) -> u64
+        ensures { result ≤ max 2000 self.straining }
+    {
+        let Ok(kind) = Kind::try_from(kind) else {
+            return 0;
+        };
+        let factor = match kind {
+            Kind::Dead => dead(row),
+            Kind::Fluid => fluid(row),
+            Kind::PermanentEarth | Kind::OtherEarth => earth(row),
+            Kind::Live => live(row, self.live),
+            Kind::RoofLive | Kind::Rain => roof(row),
+            Kind::Snow => snow(row),
+            Kind::Wind => wind(row),
+            Kind::Earthquake => earthquake(row),
+            Kind::Flood => flood(row),
+            Kind::IceWeight => ice_weight(row),
+            Kind::IceWind => ice_wind(row),
+            Kind::SelfStraining => return self.self_straining(row),
+        };
+        factor.thousandths
     }
-}
 
-// The full factor of both kinds of earth pressure.
-fn earth(row: u8) -> u64
-    ensures { result ≤ 2000 }
-{
-    match plain(row) {
-        2..=8 => 1600,
-        22..=30 => 1000,
-        _ => 0,
+    // Every row but the first of each method has the sheet's factor for T, flood and ice rows too.
+    fn self_straining(self, row: u8) -> u64
+        ensures value { result ≡ self_straining row self.straining }
+        ensures upper_bound { result ≤ self.straining }
+    {
+        match row {
+            1 | 21 => 0,
+            _ => u64::from(self.straining),
+        }
     }
-}
 
-// The live option halves the factor of lines 3 to 5 of the strength method and of the rows made from them, and of no other.
-fn live(row: u8, option: u8) -> u64
-    ensures { result ≤ 2000 }
-{
-    match plain(row) {
-        2 => 1600,
-        3 | 5 | 6 => { if option == 1 { 500 } else { 1000 } }
-        22 => 1000,
-        24 | 27 | 28 => 750,
-        _ => 0,
+    // The low factor of permanent earth pressure.
+    pub fn low_factor(self) -> u64
+        ensures { result ≡ low_factor_of self.method }
+    {
+        if self.method == 1 { 900 } else { 600 }
     }
-}
-
-// Asked of the row itself: in an ice row the roof load gives way to snow.
-fn roof(row: u8) -> u64
-    ensures { result ≤ 2000 }
-{
-    match row {
-        2 | 5 | 9 | 11 => 500,
-        3 | 4 => 1600,
-        23 => 1000,
-        24 | 27 | 33 | 38 => 750,
-        _ => 0,
-    }
-}
-
-// Rows 6 and 28 and the ice rows take snow and no other load of the roof.
-fn snow(row: u8) -> u64
-    ensures { result ≤ 2000 }
-{
-    match row {
-        6 => 200,
-        28 | 34 | 39 => 750,
-        13 | 14 => 500,
-        42 => 1000,
-        _ => roof(row),
-    }
-}
-
-// Asked of the row itself: zone 2 of the strength method halves the wind of the plain row, and no ice row has it.
-fn wind(row: u8) -> u64
-    ensures { result ≤ 2000 }
-{
-    match row {
-        4 => 500,
-        5 | 7 | 9 | 10 => 1000,
-        11 | 12 => 500,
-        25 | 29 | 31 | 35 | 36 | 40 => 600,
-        27 | 33 | 38 => 450,
-        _ => 0,
-    }
-}
-
-// Asked of the row itself: no flood or ice row has earthquake.
-fn earthquake(row: u8) -> u64
-    ensures { result ≤ 2000 }
-{
-    match row {
-        6 | 8 => 1000,
-        26 | 30 => 700,
-        28 => 525,
-        _ => 0,
-    }
-}
-
-fn flood(row: u8) -> u64
-    ensures { result ≤ 2000 }
-{
-    match row {
-        9 | 10 => 2000,
-        11 | 12 => 1000,
-        31..=35 => 1500,
-        36..=40 => 750,
-        _ => 0,
-    }
-}
-
-// The weight of ice.
-fn ice_weight(row: u8) -> u64
-    ensures { result ≤ 2000 }
-{
-    match row {
-        13 => 200,
-        14 | 15 => 1000,
-        41..=43 => 700,
-        _ => 0,
-    }
-}
-
-// The wind on ice.
-fn ice_wind(row: u8) -> u64
-    ensures { result ≤ 2000 }
-{
-    match row {
-        14 | 15 => 1000,
-        42 | 43 => 700,
-        _ => 0,
-    }
-}
-
-// Every row but the first of each method has the sheet's factor for T, flood and ice rows too.
-fn self_straining(row: u8, straining: u16) -> u64
-    ensures value { result ≡ self_straining row straining }
-    ensures upper_bound { result ≤ straining }
-{
-    if (row == 1) | (row == 21) {
-        0
-    } else {
-        straining as u64
-    }
-}
-
-// The full factor of a kind in a row, 0 where the kind may not act there. Kind 0 is an empty place.
-pub fn factor(row: u8, kind: u8, option: u8, straining: u16) -> u64
-    ensures { result ≤ max 2000 straining }
-{
-    match kind {
-        1 => dead(row),
-        2 => fluid(row),
-        3 | 4 => earth(row),
-        5 => live(row, option),
-        6 | 8 => roof(row),
-        7 => snow(row),
-        9 => wind(row),
-        10 => earthquake(row),
-        11 => flood(row),
-        12 => ice_weight(row),
-        13 => ice_wind(row),
-        14 => self_straining(row, straining),
-        _ => 0,
-    }
-}
-
-// The low factor of permanent earth pressure.
-pub fn low_factor(method: u8) -> u64
-    ensures { result ≡ low_factor_of method }
-{
-    if method == 1 { 900 } else { 600 }
 }

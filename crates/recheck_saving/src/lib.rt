@@ -4,178 +4,139 @@
 
 #![tactic(auto)]
 
-ghost use Rattle.std.specs.Prelude.{◌≡◌, ◌+◌, ◌≤◌, ◌<◌, length};
+ghost use Rattle.std.specs.Prelude.{◌≡◌, ◌+◌, ◌≤◌, length, take};
 
-use recheck_sheet::WorkingSheet;
+use recheck_rows::Options;
+use recheck_sheet::{Place, Triple, WorkingSheet};
 
-// A field, or nothing where it is not asked for; the place of the next.
-fn put(out: &mut [u8], at: usize, asked: bool, field: &[u8]) -> usize
-    requires { at + length field.now ≤ length out.old }
-    ensures { result ≤ at + length field.now }
-{
-    if !asked {
-        return at;
-    }
-    let mut i: usize = 0;
-    while i < field.len() {
-        out[at + i] = field[i];
-        i += 1;
-    }
-    at + i
-}
+// No working sheet has more bytes: 15 of settings, 181 for each place and 10 for each station.
+const ROOM: usize = 5967;
 
-fn high(n: u16) -> u8 {
-    (n / 256) as u8
-}
-
-fn low(n: u16) -> u8 {
-    (n % 256) as u8
-}
-
-// Tag 03, unless all three effects are 0.
-fn put_effects(out: &mut [u8], at: usize, case: u8, station: u8, n: u16, y: u16, z: u16) -> usize
-    requires { at + 11 ≤ length out.old }
-    ensures { result ≤ at + 11 }
-{
-    let field = [
-        3u8,
-        0,
-        8,
-        case,
-        station,
-        high(n),
-        low(n),
-        high(y),
-        low(y),
-        high(z),
-        low(z),
-    ];
-    put(out, at, (n != 0) | (y != 0) | (z != 0), &field)
-}
-
-// The stations of one case.
-fn put_stations(effects: &[u16; 1536], out: &mut [u8], start: usize, case: usize) -> usize
-    requires start_in_bounds { start + 176 ≤ length out.old }
-    requires case_bound { case < 32 }
-    ensures { result ≤ start + 176 }
-{
-    let mut at = start;
-    let mut station: usize = 0;
-    while station < 16 {
-        let first = case * 48 + station * 3;
-        let n = effects[first];
-        let y = effects[first + 1];
-        let z = effects[first + 2];
-        at = put_effects(out, at, case as u8, station as u8, n, y, z);
-        station += 1;
-    }
-    at
-}
-
-// One filled place with its stations; an empty one has nothing.
-fn put_case(kind: u8, effects: &[u16; 1536], out: &mut [u8], at: usize, case: usize) -> usize
-    requires at_in_bounds { at + 181 ≤ length out.old }
-    requires case_bound { case < 32 }
-    ensures { result ≤ at + 181 }
-{
-    if kind == 0 {
-        return at;
-    }
-    let field = [2u8, 0, 2, case as u8, kind];
-    let next = put(out, at, true, &field);
-    put_stations(effects, out, next, case)
-}
-
-fn put_cases(kinds: &[u8; 32], effects: &[u16; 1536], out: &mut [u8], start: usize) -> usize
-    requires start_bound { start ≤ 15 }
-    requires in_bounds { 5807 ≤ length out.old }
-    ensures { result ≤ 5807 }
-{
-    let mut at = start;
-    let mut case: usize = 0;
-    while case < 32 {
-        at = put_case(kinds[case], effects, out, at, case);
-        case += 1;
-    }
-    at
-}
-
-// Tag 05, where the station has capacities.
-fn put_station(out: &mut [u8], at: usize, station: u8, n: u16, y: u16, z: u16) -> usize
-    requires { at + 10 ≤ length out.old }
-    ensures { result ≤ at + 10 }
-{
-    let field = [
-        5u8,
-        0,
-        7,
-        station,
-        high(n),
-        low(n),
-        high(y),
-        low(y),
-        high(z),
-        low(z),
-    ];
-    put(out, at, n != 0, &field)
-}
-
-fn put_capacities(capacities: &[u16; 48], out: &mut [u8], start: usize) -> usize
-    requires start_bound { start ≤ 5807 }
-    requires in_bounds { 5967 ≤ length out.old }
-    ensures { result ≤ 5967 }
-{
-    let mut at = start;
-    let mut station: usize = 0;
-    while station < 16 {
-        let first = station * 3;
-        let n = capacities[first];
-        let y = capacities[first + 1];
-        let z = capacities[first + 2];
-        at = put_station(out, at, station as u8, n, y, z);
-        station += 1;
-    }
-    at
-}
-
-// Tag 01; while the ice rows are open, tag 08; and tag 09, unless the factor of T is the one that tag 01 sets.
-fn put_settings(out: &mut [u8], method: u8, live: u8, zone: u8, ice: u8, straining: u16) -> usize
-    requires { 15 ≤ length out.old }
-    ensures { result ≤ 15 }
-{
-    let field = [1u8, 0, 3, method, live, zone];
-    let next = put(out, 0, true, &field);
-    let switch = [8u8, 0, 1, ice];
-    let last = put(out, next, ice != 0, &switch);
-    let factor = [9u8, 0, 2, high(straining), low(straining)];
-    put(out, last, straining != 1000, &factor)
-}
-
-// Writes the saved form, and says how many bytes it has.
-fn put_saved(w: WorkingSheet, out: &mut [u8]) -> usize
-    requires { 5967 ≤ length out.old }
-    ensures { result ≤ 5967 }
-{
-    let settings = put_settings(out, w.method, w.live, w.zone, w.ice, w.straining);
-    let kinds = w.kinds;
-    let effects = w.effects;
-    let cases = put_cases(&kinds, &effects, out, settings);
-    let capacities = w.capacities;
-    put_capacities(&capacities, out, cases)
-}
-
-// The saved form of the working sheet: the first `count` of the bytes.
+// The saved form as it grows: so many bytes of the room.
 #[derive(Drop)]
 pub struct SavedForm {
-    pub bytes: [u8; 5967],
-    pub count: usize,
+    room: [u8; ROOM],
+    count: usize,
+    ghost in_room: { count ≤ 5967 },
 }
 
-pub fn saved_form(w: WorkingSheet) -> SavedForm
-    ensures count_bound { result.count ≤ 5967 }
-    ensures value { 5967 ≡ length result.bytes }
-{
-    let mut bytes = [0u8; 5967];
-    let count = put_saved(w, &mut bytes);
-    SavedForm { bytes, count }
+impl SavedForm {
+    fn empty() -> Self
+        ensures { result.count ≡ 0 }
+    {
+        SavedForm {
+            room: [0; ROOM],
+            count: 0,
+        }
+    }
+
+    pub fn of(w: &WorkingSheet) -> Self {
+        let mut form = Self::empty();
+        form.put_settings(w.options);
+        form.put_places(w);
+        form.put_all_capacities(w);
+        form
+    }
+
+    pub fn bytes(&self) -> &[u8]
+        ensures value { result.now ≡ take self.now.count self.now.room }
+        ensures upper_bound { length result.now ≤ 5967 }
+    {
+        &self.room[..self.count]
+    }
+
+    // A field or a part of one, after what stands there.
+    fn put(&mut self, part: &[u8])
+        requires { self.old.count + length part.now ≤ 5967 }
+        ensures { self.new.count ≡ self.old.count + length part.now }
+    {
+        let start = self.count;
+        let end = start + part.len();
+        self.room[start..end].copy_from_slice(part);
+        self.count = end;
+    }
+
+    fn put_number(&mut self, number: u16)
+        requires { self.old.count + 2 ≤ 5967 }
+        ensures { self.new.count ≡ self.old.count + 2 }
+    {
+        self.put(&number.to_be_bytes());
+    }
+
+    fn put_triple(&mut self, triple: Triple)
+        requires { self.old.count + 6 ≤ 5967 }
+        ensures { self.new.count ≡ self.old.count + 6 }
+    {
+        self.put_number(triple.n);
+        self.put_number(triple.my);
+        self.put_number(triple.mz);
+    }
+
+    // Tag 01; while the ice rows are open, tag 08; and tag 09, unless the factor of T is the one that tag 01 sets.
+    fn put_settings(&mut self, options: Options)
+        requires { self.old.count ≡ 0 }
+        ensures { self.new.count ≤ 15 }
+    {
+        self.put(&[1, 0, 3, options.method, options.live, options.zone]);
+        if options.ice != 0 {
+            self.put(&[8, 0, 1, options.ice]);
+        }
+        if options.straining != 1000 {
+            self.put(&[9, 0, 2]);
+            self.put_number(options.straining);
+        }
+    }
+
+    // Tag 03, unless all three effects are 0.
+    fn put_effects(&mut self, case: u8, station: u8, effects: Triple)
+        requires { self.old.count + 11 ≤ 5967 }
+        ensures { self.new.count ≤ self.old.count + 11 }
+    {
+        if effects != Triple::default() {
+            self.put(&[3, 0, 8, case, station]);
+            self.put_triple(effects);
+        }
+    }
+
+    // A filled place with its stations; an empty one has nothing.
+    fn put_place(&mut self, case: u8, place: &Place)
+        requires { self.old.count + 181 ≤ 5967 }
+        ensures { self.new.count ≤ self.old.count + 181 }
+    {
+        let Some(kind) = place.kind else {
+            return;
+        };
+        self.put(&[2, 0, 2, case, kind]);
+        for (station, effects) in (0..16).zip(&place.effects) {
+            self.put_effects(case, station, *effects);
+        }
+    }
+
+    fn put_places(&mut self, w: &WorkingSheet)
+        requires { self.old.count ≤ 15 }
+        ensures { self.new.count ≤ 5807 }
+    {
+        for (case, place) in (0..32).zip(&w.places) {
+            self.put_place(case, place);
+        }
+    }
+
+    // Tag 05, where the station has capacities.
+    fn put_capacities(&mut self, station: u8, capacities: Option<Triple>)
+        requires { self.old.count + 10 ≤ 5967 }
+        ensures { self.new.count ≤ self.old.count + 10 }
+    {
+        if let Some(triple) = capacities {
+            self.put(&[5, 0, 7, station]);
+            self.put_triple(triple);
+        }
+    }
+
+    fn put_all_capacities(&mut self, w: &WorkingSheet)
+        requires { self.old.count ≤ 5807 }
+    {
+        for (station, capacities) in (0..16).zip(&w.capacities) {
+            self.put_capacities(station, *capacities);
+        }
+    }
 }

@@ -1,41 +1,28 @@
--- SCOPE 2.7: the effects of the D cases and those of the F cases, added up for each station and component, in 64 bits of two's
--- complement. Of the six sums of a station the first three are those of D, in the order of the components.
--- 32 numbers of 16 bits add up to at most 2^20 in size, so no sum is too large for its bits.
-use Rattle.std.specs.Prelude.{ℕ, zero, suc, ◌+◌, ◌-◌, ◌*◌, ◌/◌, ◌%◌, ◌^◌, Bool, true, false, cond, not, ◌&&◌, ◌||◌, List, [], ◌∷◌, ◌++◌, length, ℤ, pos, ◌==◌, nat_lt, slice_index, slice_index_or}
-use Rattle.std.specs.Int.{w64}
-use Rattle.std.proofs.Common.{of_z}
+-- SCOPE 2.7: the effects of the D cases and those of the F cases, added up for each station and component. Of the six sums of a
+-- station the first three are those of D, in the order of the components.
+use Rattle.std.specs.Prelude.{ℕ, ◌/◌, ◌%◌, List, map, Option, None, Some, ℤ, pos, ◌+ℤ◌, fold, if◌then◌else◌, ◌==◌, nat_lt, slice_index_or}
+use Rattle.std.specs.Int.{w16, cast_signed}
+use Rattle.std.specs.List.{range_with_len}
+use Rattle.recheck_sheet.specs.declared.Place.{Place}
+use Rattle.recheck_sheet.specs.declared.WorkingSheet.{WorkingSheet}
+use Rattle.recheck_sheet.specs.Sheet.{component_of, no_effect}
 
--- the 64 bits of an effect, which has 16: a negative effect e is 2^16 + e in 16 bits and 2^64 + e in 64
-abbrev pub widened : ℕ → ℕ
-widened effect = cond (nat_lt effect 32768) effect (effect + (2 ^ 64 - 2 ^ 16))
+-- an effect, where the case is of the kind
+abbrev pub counted : Option ℕ → ℕ → ℤ → ℤ
+counted None kind effect = pos 0
+counted (Some k) kind effect = if k == kind then effect else pos 0
 
--- over so many places, the sum of the effects at one position of each case of the kind
-unfoldable pub sum_at : List ℕ → List ℕ → ℕ → ℕ → ℕ → ℕ
-sum_at kinds effects kind at zero = 0
-sum_at kinds effects kind at (suc n) =
-    cond (slice_index kinds n == kind)
-    ((sum_at kinds effects kind at n + widened (slice_index effects (n * 48 + at))) % 2 ^ 64)
-    (sum_at kinds effects kind at n)
+-- what a place adds to the sum of a kind at a station and component
+unfoldable pub share : Place → ℕ → ℕ → ℕ → ℤ
+share p kind station component = counted p.kind kind (cast_signed w16 (component_of (slice_index_or p.effects station no_effect) component))
+
+unfoldable pub sum_at : List Place → ℕ → ℕ → ℕ → ℤ
+sum_at ps kind station component = fold (λ sum p. sum +ℤ share p kind station component) (pos 0) ps
 
 -- the kind whose sum stands at an index: D, then F
 abbrev pub kind_at : ℕ → ℕ
-kind_at i = cond (nat_lt (i % 6) 3) 1 2
+kind_at i = if nat_lt (i % 6) 3 then 1 else 2
 
--- the first sums, so many of them
-unfoldable pub sums_of : List ℕ → List ℕ → ℕ → List ℕ
-sums_of kinds effects zero = []
-sums_of kinds effects (suc i) = sums_of kinds effects i ++ (sum_at kinds effects (kind_at i) (i / 6 * 3 + i % 3) 32 ∷ [])
-
--- whether any of so many sums is not 0
-unfoldable pub any_up_to : List ℕ → ℕ → Bool
-any_up_to due zero = false
-any_up_to due (suc i) = any_up_to due i || not (slice_index due i == 0)
-
--- whether so many numbers are these sums
-unfoldable pub same_up_to : List ℕ → List ℤ → ℕ → Bool
-same_up_to due sums zero = true
-same_up_to due sums (suc i) = same_up_to due sums i && of_z w64 (slice_index_or sums i (pos 0)) == slice_index due i
-
--- whether the numbers are these 96 sums
-abbrev pub sums_are : List ℕ → List ℤ → Bool
-sums_are due sums = length sums == 96 && same_up_to due sums 96
+-- the sums of a sheet
+unfoldable pub sums_of : WorkingSheet → List ℤ
+sums_of w = map (λ i. sum_at w.places (kind_at i) (i / 6) (i % 3)) (range_with_len 0 96)

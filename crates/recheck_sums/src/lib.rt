@@ -1,52 +1,39 @@
 // The sums that a sheet holds: for each station and component, the effects of the D cases added up, and those of the F cases. They
 // are worked out from the working sheet here, case by case, and compared with those that the library's sheet has.
-// Sums are 64 bits of two's complement: station s, component k, D at 6 s + k and F at 6 s + 3 + k.
+// Sums stand as in the library's sheet: station s, component k, D at 6 s + k and F at 6 s + 3 + k.
 
 #![tactic(auto)]
 
-ghost use Rattle.std.specs.Prelude.{◌≡◌, ◌+◌, ◌%◌, ◌^◌, ◌<◌, if◌then◌else◌};
-ghost use Rattle.std.specs.Int.{w64};
-ghost use Rattle.std.proofs.Common.{of_z};
-ghost use Rattle.recheck_sums.specs.Sums.{widened, kind_at, sum_at, sums_of, any_up_to, sums_are};
+ghost use Rattle.std.specs.Prelude.{◌≡◌, ◌↔◌, ◌≢◌, ◌<◌, ◌≤ℤ◌, pos, neg_ℤ, IsTrue, Any};
+ghost use Rattle.recheck_sums.specs.Sums.{kind_at, share, sum_at, sums_of};
 
-use recheck_sheet::WorkingSheet;
-use std::num::wrapping_add_u64;
+use recheck_sheet::{CASES, Place, WorkingSheet};
 
 // How many sums a sheet has.
 pub const SUMS: usize = 96;
 
-// The 64 bits of an effect, which has 16.
-fn widened(effect: u16) -> u64
-    ensures { result ≡ widened effect }
+// What a place adds to the sum over the cases of a kind: its effect, where its case is of that kind.
+#[tactic(auto, unfolding(crate::specs::Sums::share))]
+fn share(place: &Place, kind: u8, station: usize, component: usize) -> i64
+    requires { station < 16 }
+    ensures value { result ≡ share place.now kind station component }
+    ensures lower_bound { neg_ℤ (pos 32768) ≤ℤ result }
+    ensures upper_bound { result ≤ℤ pos 32767 }
 {
-    if effect < 32768 {
-        effect as u64
-    } else {
-        effect as u64 + 18446744073709486080
+    if place.kind != Some(kind) {
+        return 0;
     }
+    i64::from(place.effects[station].component(component).cast_signed())
 }
 
-// The sum and, where it is asked for, the effect.
-fn added(sum: u64, effect: u16, asked: bool) -> u64
-    ensures { result ≡ (if asked then (sum + widened effect) % 2 ^ 64 else sum) }
+// The sum over the cases of a kind.
+fn sum_at(places: &[Place; CASES], kind: u8, station: usize, component: usize) -> i64
+    requires { station < 16 }
+    ensures { result ≡ sum_at places.now kind station component }
 {
-    if asked {
-        wrapping_add_u64(sum, widened(effect))
-    } else {
-        sum
-    }
-}
-
-// The sum over the cases of a kind. `at` is the position of a station's component among the 48 effects of a case.
-fn sum_at(kinds: &[u8; 32], effects: &[u16; 1536], kind: u8, at: usize) -> u64
-    requires { at < 48 }
-    ensures { result ≡ sum_at kinds.now effects.now kind at 32 }
-{
-    let mut sum: u64 = 0;
-    let mut case: usize = 0;
-    while case < 32 {
-        sum = added(sum, effects[case * 48 + at], kinds[case] == kind);
-        case += 1;
+    let mut sum = 0;
+    for place in places {
+        sum += share(place, kind, station, component);
     }
     sum
 }
@@ -59,64 +46,34 @@ fn kind_at(index: usize) -> u8
 }
 
 // The sums that the sheet must have.
-pub fn sums_of(w: WorkingSheet) -> [u64; SUMS]
-    ensures { result ≡ sums_of w.kinds w.effects 96 }
+// Stays: (a) one list by index, since the library's sheet has its sums so.
+pub fn sums_of(w: &WorkingSheet) -> [i64; SUMS]
+    ensures { result ≡ sums_of w.now }
 {
-    let kinds = w.kinds;
-    let effects = w.effects;
-    let mut sums = [0u64; SUMS];
-    let mut i: usize = 0;
-    while i < SUMS {
-        sums[i] = sum_at(&kinds, &effects, kind_at(i), i / 6 * 3 + i % 3);
-        i += 1;
+    let mut sums = [0; SUMS];
+    for i in 0..SUMS {
+        sums[i] = sum_at(&w.places, kind_at(i), i / 6, i % 3);
     }
     sums
 }
 
 // Whether any of these sums is not 0.
-pub fn has_sums(due: &[u64; SUMS]) -> bool
-    ensures { result ≡ any_up_to due.now 96 }
+pub fn has_sums(due: &[i64; SUMS]) -> bool
+    ensures { IsTrue result ↔ Any (λ sum. sum ≢ pos 0) due.now }
 {
-    let mut any = false;
-    let mut i: usize = 0;
-    while i < SUMS {
-        any = any | (due[i] != 0);
-        i += 1;
-    }
-    any
-}
-
-// The 64 bits of a signed number.
-fn bits(number: i64) -> u64
-    ensures { result ≡ of_z w64 number }
-{
-    if number < 0 {
-        18446744073709551615 - (!number) as u64
-    } else {
-        number as u64
-    }
+    due.iter().any(|sum| *sum != 0)
 }
 
 // Whether the numbers are these sums, all of them and no more.
-pub fn sums_are(due: &[u64; SUMS], sums: &[i64]) -> bool
-    ensures { result ≡ sums_are due.now sums.now }
+pub fn sums_are(due: &[i64; SUMS], sums: &[i64]) -> bool
+    ensures { IsTrue result ↔ (sums.now ≡ due.now) }
 {
-    if sums.len() != SUMS {
-        return false;
-    }
-    let mut same = true;
-    let mut i: usize = 0;
-    while i < SUMS {
-        same = same & (bits(sums[i]) == due[i]);
-        i += 1;
-    }
-    same
+    sums == due.as_slice()
 }
 
 // Whether the numbers are the sums of the working sheet.
-pub fn sums_agree(w: WorkingSheet, sums: &[i64]) -> bool
-    ensures { result ≡ sums_are (sums_of w.kinds w.effects 96) sums.now }
+pub fn sums_agree(w: &WorkingSheet, sums: &[i64]) -> bool
+    ensures { IsTrue result ↔ (sums.now ≡ sums_of w.now) }
 {
-    let due = sums_of(w);
-    sums_are(&due, sums)
+    sums_are(&sums_of(w), sums)
 }

@@ -1,10 +1,11 @@
-// The refusals on the values of a body: each function gives the number of the first that is due, or 0.
+// The refusals on the values of a body: each function refuses with the first that is due.
 
 #![tactic(auto)]
 
-ghost use Rattle.std.specs.Prelude.{◌≡◌, cond};
-ghost use Rattle.standard.specs.Range.{method_outside, outside, straining_outside};
-ghost use Rattle.refusals.specs.Refusals.{effect_outside, capacity_outside, kind_outside, due_settings, due_fill_at, due_effects_at, due_empty_at, due_capacities, due_extremes, due_switch, due_straining, due_utilisation_at, due_name};
+ghost use Rattle.std.specs.Prelude.{◌≡◌};
+ghost use Rattle.standard.specs.Range.{method_outside, straining_outside};
+ghost use Rattle.refusals.specs.Refusals.{case_outside, station_outside, component_outside, effect_outside, capacity_outside, kind_outside, due_settings, due_fill_at, due_effects_at, due_empty_at, due_capacities, due_extremes, due_switch, due_straining, due_utilisation_at, due_name};
+ghost use Rattle.refusals.specs.Numbers.{number, number_of, refused_where};
 
 use standard::Class;
 
@@ -15,151 +16,191 @@ const LAST_STATION: u8 = 15;
 const LAST_COMPONENT: u8 = 2;
 
 const EFFECT_LIMIT: u16 = 10000;
-// The bits of -10,000.
-const LEAST_EFFECT: u16 = 55536;
 
 const CAPACITY_LIMIT: u16 = 10000;
 
-fn effect_outside(raw: u16) -> bool
-    ensures { result ≡ effect_outside raw }
-{
-    if raw <= EFFECT_LIMIT {
-        return false;
+/// Why a field is refused.
+#[derive(Clone, Copy, PartialEq, Eq, Debug)]
+pub enum Refusal {
+    UnknownTag,
+    WrongLength,
+    Cut,
+    Setting,
+    Case,
+    Station,
+    Kind,
+    Component,
+    Effect,
+    Capacity,
+    Taken,
+    Empty,
+    NoCapacities,
+    ShortOutput,
+    Straining,
+}
+
+/// The number that is answered.
+impl From<Refusal> for u8 {
+    ghost from_gives = { λ refusal n. n ≡ number refusal };
+
+    fn from(refusal: Refusal) -> u8 {
+        match refusal {
+            Refusal::UnknownTag => 1,
+            Refusal::WrongLength => 2,
+            Refusal::Cut => 3,
+            Refusal::Setting => 4,
+            Refusal::Case => 5,
+            Refusal::Station => 6,
+            Refusal::Kind => 7,
+            Refusal::Component => 8,
+            Refusal::Effect => 9,
+            Refusal::Capacity => 10,
+            Refusal::Taken => 11,
+            Refusal::Empty => 12,
+            Refusal::NoCapacities => 13,
+            Refusal::ShortOutput => 14,
+            Refusal::Straining => 15,
+        }
     }
-    raw < LEAST_EFFECT
 }
 
-fn capacity_outside(n: u16) -> bool
-    ensures { result ≡ capacity_outside n }
+// A step of a function that refuses: the refusal where it is due.
+pub fn refuse_where(due: bool, refusal: Refusal) -> Result<(), Refusal>
+    ensures { result ≡ refused_where due refusal }
 {
-    n == 0 || CAPACITY_LIMIT < n
+    if due { Err(refusal) } else { Ok(()) }
 }
 
-fn kind_outside(n: u8) -> bool
-    ensures { result ≡ kind_outside n }
+fn check_case(case: u8) -> Result<(), Refusal>
+    ensures { result ≡ refused_where (case_outside case) Refusal.Case }
 {
-    let q = standard::class_of(n as usize);
-    match q {
-        Class::Always => false,
-        Class::Together => false,
-        Class::Subset => false,
-        Class::OneOf(_) => false,
-        Class::Unknown => true,
-    }
+    refuse_where(LAST_CASE < case, Refusal::Case)
 }
 
-fn method_outside(n: u8) -> bool
-    ensures { result ≡ method_outside n }
+fn check_station(station: u8) -> Result<(), Refusal>
+    ensures { result ≡ refused_where (station_outside station) Refusal.Station }
 {
-    n == 0 || 2 < n
+    refuse_where(LAST_STATION < station, Refusal::Station)
 }
 
-fn outside(least: u16, most: u16, n: u16) -> bool
-    ensures { result ≡ outside least most n }
+fn check_kind(kind: u8) -> Result<(), Refusal>
+    ensures { result ≡ refused_where (kind_outside kind) Refusal.Kind }
 {
-    n < least || most < n
+    let class = standard::class_of(usize::from(kind));
+    refuse_where(matches!(class, Class::Unknown), Refusal::Kind)
+}
+
+fn check_effect(raw: u16) -> Result<(), Refusal>
+    ensures { result ≡ refused_where (effect_outside raw) Refusal.Effect }
+{
+    let size = raw.cast_signed().unsigned_abs();
+    refuse_where(EFFECT_LIMIT < size, Refusal::Effect)
+}
+
+fn check_capacity(capacity: u16) -> Result<(), Refusal>
+    ensures { result ≡ refused_where (capacity_outside capacity) Refusal.Capacity }
+{
+    let outside = capacity == 0 || CAPACITY_LIMIT < capacity;
+    refuse_where(outside, Refusal::Capacity)
+}
+
+// Whether no sheet has this method.
+fn method_outside(method: u8) -> bool
+    ensures { result ≡ method_outside method }
+{
+    method == 0 || 2 < method
 }
 
 fn straining_outside(method: u8, factor: u16) -> bool
     ensures { result ≡ straining_outside method factor }
 {
-    if method == 1 {
-        return outside(1000, 2000, factor);
-    }
-    outside(750, 1000, factor)
-}
-
-// One step of a chain of refusals: the number where the test holds, else what the rest of the chain says.
-pub fn first(test: bool, number: u8, rest: u8) -> u8
-    ensures { result ≡ cond test number rest }
-{
-    if test { number } else { rest }
+    let limits = if method == 1 { 1000..=2000 } else { 750..=1000 };
+    !limits.contains(&factor)
 }
 
 #[tactic(auto, unfolding(crate::specs::Refusals::due_settings))]
-pub fn due_settings(method: u8, live: u8, zone: u8) -> u8
-    ensures { result ≡ due_settings method live zone }
+pub fn check_settings(method: u8, live: u8, zone: u8) -> Result<(), Refusal>
+    ensures { number_of result ≡ due_settings method live zone }
 {
-    let d = first(2 < zone, 4, 0);
-    let d = first(1 < live, 4, d);
-    first(method_outside(method), 4, d)
+    let outside = method_outside(method) || 1 < live || 2 < zone;
+    refuse_where(outside, Refusal::Setting)
 }
 
 // `held` is the kind at the place, 0 where it is empty.
 #[tactic(auto, unfolding(crate::specs::Refusals::due_fill_at))]
-pub fn due_fill(case: u8, kind: u8, held: u8) -> u8
-    ensures { result ≡ due_fill_at held case kind }
+pub fn check_fill(case: u8, kind: u8, held: u8) -> Result<(), Refusal>
+    ensures { number_of result ≡ due_fill_at held case kind }
 {
-    let d = first(held != 0, 11, 0);
-    let d = first(kind_outside(kind), 7, d);
-    first(LAST_CASE < case, 5, d)
+    check_case(case)?;
+    check_kind(kind)?;
+    refuse_where(held != 0, Refusal::Taken)
 }
 
 #[tactic(auto, unfolding(crate::specs::Refusals::due_effects_at))]
-pub fn due_effects(case: u8, station: u8, n: u16, y: u16, z: u16, held: u8) -> u8
-    ensures { result ≡ due_effects_at held case station n y z }
+pub fn check_effects(case: u8, station: u8, n: u16, y: u16, z: u16, held: u8) -> Result<(), Refusal>
+    ensures { number_of result ≡ due_effects_at held case station n y z }
 {
-    let d = first(held == 0, 12, 0);
-    let d = first(effect_outside(z), 9, d);
-    let d = first(effect_outside(y), 9, d);
-    let d = first(effect_outside(n), 9, d);
-    let d = first(LAST_STATION < station, 6, d);
-    first(LAST_CASE < case, 5, d)
+    check_case(case)?;
+    check_station(station)?;
+    check_effect(n)?;
+    check_effect(y)?;
+    check_effect(z)?;
+    refuse_where(held == 0, Refusal::Empty)
 }
 
 #[tactic(auto, unfolding(crate::specs::Refusals::due_empty_at))]
-pub fn due_empty(case: u8, held: u8) -> u8
-    ensures { result ≡ due_empty_at held case }
+pub fn check_empty(case: u8, held: u8) -> Result<(), Refusal>
+    ensures { number_of result ≡ due_empty_at held case }
 {
-    let d = first(held == 0, 12, 0);
-    first(LAST_CASE < case, 5, d)
+    check_case(case)?;
+    refuse_where(held == 0, Refusal::Empty)
 }
 
 #[tactic(auto, unfolding(crate::specs::Refusals::due_capacities))]
-pub fn due_capacities(station: u8, n: u16, y: u16, z: u16) -> u8
-    ensures { result ≡ due_capacities station n y z }
+pub fn check_capacities(station: u8, n: u16, y: u16, z: u16) -> Result<(), Refusal>
+    ensures { number_of result ≡ due_capacities station n y z }
 {
-    let d = first(capacity_outside(z), 10, 0);
-    let d = first(capacity_outside(y), 10, d);
-    let d = first(capacity_outside(n), 10, d);
-    first(LAST_STATION < station, 6, d)
+    check_station(station)?;
+    check_capacity(n)?;
+    check_capacity(y)?;
+    check_capacity(z)
 }
 
 #[tactic(auto, unfolding(crate::specs::Refusals::due_extremes))]
-pub fn due_extremes(station: u8, component: u8) -> u8
-    ensures { result ≡ due_extremes station component }
+pub fn check_extremes(station: u8, component: u8) -> Result<(), Refusal>
+    ensures { number_of result ≡ due_extremes station component }
 {
-    let d = first(LAST_COMPONENT < component, 8, 0);
-    first(LAST_STATION < station, 6, d)
+    check_station(station)?;
+    refuse_where(LAST_COMPONENT < component, Refusal::Component)
 }
 
 // `held` is the station's first capacity, 0 where it has none.
 #[tactic(auto, unfolding(crate::specs::Refusals::due_utilisation_at))]
-pub fn due_utilisation(station: u8, held: u16) -> u8
-    ensures { result ≡ due_utilisation_at held station }
+pub fn check_utilisation(station: u8, held: u16) -> Result<(), Refusal>
+    ensures { number_of result ≡ due_utilisation_at held station }
 {
-    let due = first(held == 0, 13, 0);
-    first(LAST_STATION < station, 6, due)
+    check_station(station)?;
+    refuse_where(held == 0, Refusal::NoCapacities)
 }
 
 #[tactic(auto, unfolding(crate::specs::Refusals::due_switch))]
-pub fn due_switch(byte: u8) -> u8
-    ensures { result ≡ due_switch byte }
+pub fn check_switch(byte: u8) -> Result<(), Refusal>
+    ensures { number_of result ≡ due_switch byte }
 {
-    first(1 < byte, 4, 0)
+    refuse_where(1 < byte, Refusal::Setting)
 }
 
 // `method` is the sheet's.
 #[tactic(auto, unfolding(crate::specs::Refusals::due_straining))]
-pub fn due_straining(method: u8, factor: u16) -> u8
-    ensures { result ≡ due_straining method factor }
+pub fn check_straining(method: u8, factor: u16) -> Result<(), Refusal>
+    ensures { number_of result ≡ due_straining method factor }
 {
-    first(straining_outside(method, factor), 15, 0)
+    refuse_where(straining_outside(method, factor), Refusal::Straining)
 }
 
 #[tactic(auto, unfolding(crate::specs::Refusals::due_name))]
-pub fn due_name(case: u8) -> u8
-    ensures { result ≡ due_name case }
+pub fn check_name(case: u8) -> Result<(), Refusal>
+    ensures { number_of result ≡ due_name case }
 {
-    first(LAST_CASE < case, 5, 0)
+    check_case(case)
 }

@@ -12,9 +12,9 @@ use Rattle.wire.specs.Bytes.{word_at}
 use Rattle.sheet.specs.declared.Sheet.{Sheet}
 use Rattle.sheet.specs.declared.Answer.TheVariants.{Accepted}
 use Rattle.sheet.specs.declared.Answered.{Answered}
-use Rattle.headers.specs.declared.Header.TheVariants.{Field}
+use Rattle.std.specs.Prelude.{Some}
 use Rattle.fields.specs.declared.Reading.{Reading}
-use Rattle.headers.specs.Headers.{longest_body, header_of}
+use Rattle.headers.specs.Headers.{longest_body, header, header_of}
 use Rattle.fields.specs.Field.{read_field}
 use Rattle.fields.specs.Order.{read_in_order, field_of, read_header, reading}
 use Rattle.fields.specs.Readings.{ReadThrough, field}
@@ -33,7 +33,7 @@ module _ (tag : ℕ) (body rest : List ℕ) where
   abbrev bytes : List ℕ
   bytes = tag ∷ 0 ∷ length body ∷ (body ++ rest)
 
-  whole_header : length body < 256 → header_of bytes ≡ Field tag (length body)
+  whole_header : length body < 256 → header_of bytes ≡ Some (header tag (length body))
   unfolding header_of
   whole_header h =
       let a : 3 ≤ length bytes = omega arith in

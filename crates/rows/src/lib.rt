@@ -1,22 +1,17 @@
 #![tactic(auto)]
 
 // The constant table of rows: the factor of a kind in a row, and the kinds that have one.
-ghost use Rattle.std.specs.Prelude.{◌≡◌, false, ◌<◌};
-ghost use Rattle.standard.specs.Kinds.{kind_count};
+ghost use Rattle.std.specs.Prelude.{◌≡◌, ◌<◌};
+ghost use Rattle.standard.specs.Kinds.{number_of};
 ghost use Rattle.standard.specs.Rows.{row_count, straining_in, factor_of};
-ghost use Rattle.standard.specs.Columns.{column_of, row_table, kinds_in};
+ghost use Rattle.standard.specs.Columns.{entries_in, kinds_in};
 
-use standard::{ROWS, Settings};
+use standard::{Kind, ROWS, Settings};
 
 const COLUMNS: usize = 12;
 
-// The kind T, which has no column.
-const SELF_STRAINING: usize = 14;
-
-pub type RowTable = [[u16; COLUMNS]; ROWS];
-
 // Rows by number; the columns are D, F, H, L, L with live option 1, roof, S, W, E, Fa, Di, Wi.
-const LINES: RowTable = [
+static LINES: [[u16; COLUMNS]; ROWS] = [
     [0, 0, 0, 0, 0, 0, 0, 0, 0, 0, 0, 0],
     [1400, 1400, 0, 0, 0, 0, 0, 0, 0, 0, 0, 0],
     [1200, 1200, 1600, 1600, 1600, 500, 500, 0, 0, 0, 0, 0],
@@ -64,65 +59,53 @@ const LINES: RowTable = [
 ];
 
 // By row: bit j where kind j has a factor. A number that no row has is never open.
-const ROW_KINDS: [u16; ROWS] = [
+static ROW_KINDS: [u16; ROWS] = [
     16384, 6, 16894, 16894, 17374, 17406, 17598, 16922, 17438, 19454, 18970, 19454, 18970, 20670,
     28862, 28698, 16384, 16384, 16384, 16384, 16384, 6, 16446, 16862, 16894, 16926, 17438, 17406,
     17598, 16922, 17438, 18974, 18462, 19454, 18622, 18970, 18974, 18462, 19454, 18622, 18970,
     20542, 28830, 28698,
 ];
 
-// The column of a kind; that of L is the one without the live option.
-#[tactic(auto, unfolding(standard::specs::Columns::column_of))]
-fn column(kind: usize) -> usize
-    ensures { result ≡ column_of false kind }
-{
-    match kind {
-        1..=3 => kind - 1,
-        4..=5 => kind - 2,
-        6..=7 => kind - 1,
-        8 => 5,
-        9..=13 => kind - 2,
-        _ => 0,
-    }
-}
-
-// The rows by number. A constant is laid out anew wherever it is read, so a caller takes the table once and lends it.
-pub fn row_table() -> RowTable
-    ensures { result ≡ row_table }
-{
-    LINES
-}
-
 // The factor of T in a row: the sheet's, and none in rows 1 and 21.
 fn straining_in(s: Settings, row: usize) -> u16
     ensures { result ≡ straining_in s row }
 {
-    if row == 1 {
-        return 0;
+    match row {
+        1 | 21 => 0,
+        _ => s.straining,
     }
-    if row == 21 {
-        return 0;
-    }
-    s.straining
 }
 
-// The factor of a kind in a row. Both columns of L are read, so that a constant row and kind fold to constants.
-pub fn factor(table: &RowTable, s: Settings, row: usize, kind: usize) -> u16
-    requires { (row < row_count) × (0 < kind) × (kind < kind_count) × (table.now ≡ row_table) }
-    ensures { result ≡ factor_of s row kind }
+// The factors of a row, by column.
+fn line(row: usize) -> [u16; COLUMNS]
+    requires { row < row_count }
+    ensures { result ≡ entries_in row }
 {
-    if kind == SELF_STRAINING {
-        return straining_in(s, row);
+    LINES[row]
+}
+
+// The factor of a kind in a row.
+#[tactic(auto, unfolding(standard::specs::Rows::factor_of, standard::specs::Columns::entries_in))]
+pub fn factor(s: Settings, row: usize, kind: Kind) -> u16
+    requires { row < row_count }
+    ensures { result ≡ factor_of s row (number_of kind) }
+{
+    let line = line(row);
+    match kind {
+        Kind::Dead => line[0],
+        Kind::Fluid => line[1],
+        Kind::EarthPermanent | Kind::EarthOther => line[2],
+        Kind::Live if s.live == 1 => line[4],
+        Kind::Live => line[3],
+        Kind::RoofLive | Kind::Rain => line[5],
+        Kind::Snow => line[6],
+        Kind::Wind => line[7],
+        Kind::Earthquake => line[8],
+        Kind::Flood => line[9],
+        Kind::Ice => line[10],
+        Kind::WindOnIce => line[11],
+        Kind::SelfStraining => straining_in(s, row),
     }
-    let c = column(kind);
-    let plain = table[row][c];
-    let halved = table[row][4];
-    if s.live == 1 {
-        if kind == 5 {
-            return halved;
-        }
-    }
-    plain
 }
 
 // The kinds that have a factor in a row, as a set: bit j is kind j.

@@ -1,9 +1,8 @@
 -- How long the bytes of stations, of places and of a whole sheet are at most.
 -- Assumes nothing.
-use Prim.Native.Nat.{ℕ, zero, suc, ◌*◌, ◌≤◌, zero-le}
+use Prim.Native.Nat.{ℕ, ◌*◌, ◌≤◌, zero-le}
 use mathlib.Core.List.{List, [], ◌∷◌, ◌++◌}
 use mathlib.Core.Bool.{Bool, true, false, cond}
-use native.Mathlib.Nat.{suc-mul}
 use native.Mathlib.Omega.{arith}
 use lib.Dec.{lit≤, eqb}
 use lib.IntN.{ℤ}
@@ -12,16 +11,8 @@ use Rattle.wire.specs.Bytes.{word_bytes}
 use Rattle.standard.specs.declared.Settings.{Settings}
 use Rattle.sheet.specs.declared.Sheet.{Sheet}
 use Rattle.sheet.specs.Sheet.{kind_at, effect_at, capacity_at}
+use Rattle.saved_fields.proofs.Runs.{up_to_most}
 use Rattle.saved_fields.specs.Saved.{up_to, words, settings_field, switch_field, straining_field, settings_bytes, settings_most, fill_field, effects_field, capacities_field, all_zero, station_bytes, case_bytes, capacity_bytes, saved_by, saved_bytes, station_most, case_most, capacity_most, saved_most}
-
--- n runs, each of b bytes at most
-pub up_to_most : (f : ℕ → List ℕ) (b : ℕ) → ((k : ℕ) → length (f k) ≤ b) → (n : ℕ) → length (up_to f n) ≤ n * b
-unfolding up_to
-up_to_most f b h zero = zero-le
-up_to_most f b h (suc n) =
-    let i = up_to_most f b h n in
-    let j = h n in
-    rw (length-append, suc-mul) (omega arith)
 
 -- nothing, or w
 pub cond_most : (t : Bool) (w : List ℕ) (b : ℕ) → length w ≤ b → length (cond t [] w) ≤ b

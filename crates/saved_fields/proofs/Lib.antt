@@ -1,2 +1,4 @@
+pub mod Words
+pub mod Runs
 pub mod Lengths
-pub mod Appending
+pub mod Signed

@@ -2,6 +2,8 @@
 use Rattle.std.specs.Prelude.{ℕ, zero, suc, ◌+◌, ◌*◌, List, [], ◌∷◌, ◌++◌, Bool, cond, ◌&&◌, eqb, ℤ, nat_abs}
 use Rattle.wire.specs.Bytes.{word_bytes, bits16}
 use Rattle.standard.specs.declared.Settings.{Settings}
+use Rattle.standard.specs.Combination.{case_count}
+use Rattle.envelope.specs.Range.{station_count}
 use Rattle.sheet.specs.declared.Sheet.{Sheet}
 use Rattle.sheet.specs.Sheet.{kind_at, effect_at, capacity_at}
 
@@ -51,7 +53,7 @@ station_bytes effect case station =
 
 -- for a filled place, tag 02 and then tag 03 for each such station, rising
 unfoldable pub case_bytes : (ℕ → ℕ) → (ℕ → ℕ → ℕ → ℤ) → ℕ → List ℕ
-case_bytes kind effect case = cond (eqb (kind case) 0) [] (fill_field case (kind case) ++ up_to (station_bytes effect case) 16)
+case_bytes kind effect case = cond (eqb (kind case) 0) [] (fill_field case (kind case) ++ up_to (station_bytes effect case) station_count)
 
 -- tag 05 for a station that has capacities
 unfoldable pub capacity_bytes : (ℕ → ℕ → ℕ) → ℕ → List ℕ
@@ -62,7 +64,7 @@ capacity_bytes capacity station =
 -- has capacities
 unfoldable pub saved_by : Settings → (ℕ → ℕ) → (ℕ → ℕ → ℕ → ℤ) → (ℕ → ℕ → ℕ) → List ℕ
 saved_by settings kind effect capacity =
-    settings_bytes settings ++ (up_to (case_bytes kind effect) 32 ++ up_to (capacity_bytes capacity) 16)
+    settings_bytes settings ++ (up_to (case_bytes kind effect) case_count ++ up_to (capacity_bytes capacity) station_count)
 
 unfoldable pub saved_bytes : Sheet → List ℕ
 saved_bytes s = saved_by s.settings (kind_at s) (effect_at s) (capacity_at s)
@@ -72,7 +74,7 @@ abbrev pub station_most : ℕ
 station_most = 11
 
 abbrev pub case_most : ℕ
-case_most = 5 + 16 * station_most
+case_most = 5 + station_count * station_most
 
 abbrev pub capacity_most : ℕ
 capacity_most = 10
@@ -81,4 +83,4 @@ abbrev pub settings_most : ℕ
 settings_most = 6 + 4 + 5
 
 abbrev pub saved_most : ℕ
-saved_most = settings_most + 32 * case_most + 16 * capacity_most
+saved_most = settings_most + case_count * case_most + station_count * capacity_most

@@ -1,157 +1,161 @@
 #![tactic(auto)]
 
 // Writes the fields of a saved sheet, place by place and station by station.
-ghost use Rattle.std.specs.Prelude.{◌≡◌, cond, [], ℕ, ◌+◌, ◌*◌, ◌<◌, ◌≤◌, length, get_or};
-ghost use Rattle.std.proofs.lemmas.List.Edits.{sets};
-ghost use Rattle.wire.specs.Bytes.{Put};
+ghost use Rattle.std.specs.Prelude.{◌≡◌, cond, [], ◌∷◌, ◌++◌, ℕ, ◌+◌, ◌*◌, ◌<◌, ◌≤◌, List, length, get_or, take};
+ghost use Rattle.standard.specs.Combination.{case_count};
+ghost use Rattle.envelope.specs.Range.{station_count};
 ghost use Rattle.effects.specs.Effects.{effect_in};
 ghost use Rattle.sheet.specs.Sheet.{capacity_in};
-ghost use Rattle.saved_fields.specs.Saved.{up_to, words, all_zero, station_bytes, case_bytes, capacity_bytes, station_most, case_most, capacity_most, settings_bytes, settings_most};
+ghost use Rattle.saved_fields.specs.Saved.{up_to, all_zero, effects_field, station_bytes, case_bytes, capacity_bytes, settings_bytes, station_most, case_most, capacity_most, settings_most, saved_most};
 
-use effects::Effects;
-use standard::Settings;
+use effects::{COMPONENTS, Effects, STATION_EFFECTS, STATIONS};
+use standard::{CASES, Settings};
+use std::marker::Model;
 
-// The effect of a case at a station on component j.
-fn effect_in(effects: &Effects, case: usize, station: usize, j: usize) -> i16
-    requires { (case < 32) × (station < 16) × (j < 3) }
-    ensures { result ≡ effect_in effects.now case station j }
-{
-    effects[station * 96 + case * 3 + j]
+const CAPACITIES: usize = STATIONS * COMPONENTS;
+
+// The most bytes of a saved sheet.
+pub const SAVED_MOST: usize = 6 + 4 + 5 + CASES * (5 + STATIONS * 11) + STATIONS * 10;
+
+// The fields of a saved sheet, as far as they are written.
+#[derive(Drop)]
+pub struct SavedFields {
+    bytes: [u8; SAVED_MOST],
+    len: usize,
 }
 
-fn capacity_in(capacities: &[u16; 48], station: usize, j: usize) -> u16
-    requires { (station < 16) × (j < 3) }
-    ensures { result ≡ capacity_in capacities.now station j }
-{
-    capacities[station * 3 + j]
+// Contracts see the bytes written.
+impl Model for SavedFields {
+    ghost Value = { List ℕ };
+
+    ghost view = { λ s. take s.len s.bytes };
+
+    ghost invariant = { λ s. s.len ≤ saved_most };
+}
+
+impl SavedFields {
+    pub fn new() -> SavedFields
+        ensures { result ≡ [] }
+    {
+        SavedFields {
+            bytes: [0; SAVED_MOST],
+            len: 0,
+        }
+    }
+
+    pub fn as_slice(&self) -> &[u8]
+        ensures { result.now ≡ self.now }
+    {
+        &self.bytes[..self.len]
+    }
+
+    // Appends one field.
+    fn push(&mut self, field: &[u8])
+        requires { length self.old + length field.now ≤ saved_most }
+        ensures { self.new ≡ self.old ++ field.now }
+    {
+        let end = self.len + field.len();
+        self.bytes[self.len..end].copy_from_slice(field);
+        self.len = end;
+    }
+
+    // Tag 01, tag 08 unless the ice rows are off, tag 09 unless the factor of T is 1000.
+    #[tactic(auto, using(crate::proofs::Words::word_bytes_of), unfolding(crate::specs::Saved::settings_bytes, crate::specs::Saved::settings_field, crate::specs::Saved::switch_field, crate::specs::Saved::straining_field))]
+    pub fn push_settings(&mut self, s: Settings)
+        requires { length self.old + settings_most ≤ saved_most }
+        ensures { self.new ≡ self.old ++ settings_bytes s }
+    {
+        self.push(&[1, 0, 3, s.method, s.live, s.zone]);
+        if s.ice != 0 {
+            self.push(&[8, 0, 1, s.ice]);
+        }
+        if s.straining != 1000 {
+            let [high, low] = s.straining.to_be_bytes();
+            self.push(&[9, 0, 2, high, low]);
+        }
+    }
+
+    // Tag 03, unless all three effects are 0.
+    #[tactic(auto, using(crate::proofs::Words::word_bytes_of), unfolding(crate::specs::Saved::effects_field, crate::specs::Saved::words))]
+    fn push_effects(&mut self, case: usize, station: usize, n: i16, y: i16, z: i16)
+        requires { (case < case_count) × (station < station_count) × (length self.old + station_most ≤ saved_most) }
+        ensures { self.new ≡ self.old ++ cond (all_zero n y z) [] (effects_field case station n y z) }
+    {
+        if all_zero(n, y, z) {
+            return;
+        }
+        let [n0, n1] = n.to_be_bytes();
+        let [y0, y1] = y.to_be_bytes();
+        let [z0, z1] = z.to_be_bytes();
+        self.push(&[3, 0, 8, case as u8, station as u8, n0, n1, y0, y1, z0, z1]);
+    }
+
+    // Tag 02 for a filled place, and then its effects, station by station.
+    #[tactic(auto, unfolding(crate::specs::Saved::case_bytes, crate::specs::Saved::fill_field))]
+    fn push_case(&mut self, kinds: &[u8; CASES], effects: &Effects, case: usize)
+        requires { (case < case_count) × (length self.old + case_most ≤ saved_most) }
+        ensures { self.new ≡ self.old ++ case_bytes (λ k. get_or kinds.now k 0) (effect_in effects.now) case }
+    {
+        let kind = kinds[case];
+        if kind == 0 {
+            return;
+        }
+        self.push(&[2, 0, 2, case as u8, kind]);
+        for station in 0..STATIONS {
+            let [n, y, z] = effects_at(effects, case, station);
+            self.push_effects(case, station, n, y, z);
+        }
+    }
+
+    // The filled places, rising.
+    pub fn push_cases(&mut self, kinds: &[u8; CASES], effects: &Effects)
+        requires { length self.old + case_count * case_most ≤ saved_most }
+        ensures { self.new ≡ self.old ++ up_to (case_bytes (λ k. get_or kinds.now k 0) (effect_in effects.now)) case_count }
+    {
+        for case in 0..CASES {
+            self.push_case(kinds, effects, case);
+        }
+    }
+
+    // Tag 05 for a station that has capacities.
+    #[tactic(auto, using(crate::proofs::Words::word_bytes_of), unfolding(crate::specs::Saved::capacity_bytes, crate::specs::Saved::capacities_field, crate::specs::Saved::words))]
+    fn push_capacity(&mut self, capacities: &[u16; CAPACITIES], station: usize)
+        requires { (station < station_count) × (length self.old + capacity_most ≤ saved_most) }
+        ensures { self.new ≡ self.old ++ capacity_bytes (capacity_in capacities.now) station }
+    {
+        let at = station * COMPONENTS;
+        let n = capacities[at];
+        if n == 0 {
+            return;
+        }
+        let [n0, n1] = n.to_be_bytes();
+        let [y0, y1] = capacities[at + 1].to_be_bytes();
+        let [z0, z1] = capacities[at + 2].to_be_bytes();
+        self.push(&[5, 0, 7, station as u8, n0, n1, y0, y1, z0, z1]);
+    }
+
+    // The stations that have capacities, rising.
+    pub fn push_capacities(&mut self, capacities: &[u16; CAPACITIES])
+        requires { length self.old + station_count * capacity_most ≤ saved_most }
+        ensures { self.new ≡ self.old ++ up_to (capacity_bytes (capacity_in capacities.now)) station_count }
+    {
+        for station in 0..STATIONS {
+            self.push_capacity(capacities, station);
+        }
+    }
 }
 
 fn all_zero(n: i16, y: i16, z: i16) -> bool
     ensures { result ≡ all_zero n y z }
 {
-    n == 0 && (y == 0 && z == 0)
+    n == 0 && y == 0 && z == 0
 }
 
-// Writes three numbers, two bytes each.
-fn put_words(out: &mut [u8], at: usize, n: u16, y: u16, z: u16) -> usize
-    requires { at + 6 ≤ length out.old }
-    ensures { Put out.old at (words n y z) result out.new }
+// A case's three effects at a station.
+fn effects_at(effects: &Effects, case: usize, station: usize) -> [i16; COMPONENTS]
+    requires { (case < case_count) × (station < station_count) }
+    ensures { result ≡ effect_in effects.now case station 0 ∷ effect_in effects.now case station 1 ∷ effect_in effects.now case station 2 ∷ [] }
 {
-    let b = [
-        (n / 256) as u8,
-        (n % 256) as u8,
-        (y / 256) as u8,
-        (y % 256) as u8,
-        (z / 256) as u8,
-        (z % 256) as u8,
-    ];
-    wire::put_at(out, at, &b)
-}
-
-fn put_effects(effects: &Effects, out: &mut [u8], at: usize, case: usize, station: usize) -> usize
-    requires { (case < 32) × (station < 16) × (at + station_most ≤ length out.old) }
-    ensures { Put out.old at (station_bytes (effect_in effects.now) case station) result out.new }
-{
-    let n = effect_in(effects, case, station, 0);
-    let y = effect_in(effects, case, station, 1);
-    let z = effect_in(effects, case, station, 2);
-    if all_zero(n, y, z) {
-        return at;
-    }
-    let b = [3u8, 0, 8, case as u8, station as u8];
-    let to = wire::put_at(out, at, &b);
-    put_words(out, to, wire::bits(n), wire::bits(y), wire::bits(z))
-}
-
-fn put_stations(effects: &Effects, out: &mut [u8], at: usize, case: usize) -> usize
-    requires { (case < 32) × (at + 16 * station_most ≤ length out.old) }
-    ensures { Put out.old at (up_to (station_bytes (effect_in effects.now) case) 16) result out.new }
-{
-    let mut to = at;
-    let mut i = 0;
-    while i < 16 {
-        to = put_effects(effects, out, to, case, i);
-        i += 1;
-    }
-    to
-}
-
-fn put_case(kinds: &[u8; 32], effects: &Effects, out: &mut [u8], at: usize, case: usize) -> usize
-    requires { (case < 32) × (at + case_most ≤ length out.old) }
-    ensures { Put out.old at (case_bytes (λ k. get_or kinds.now k 0) (effect_in effects.now) case) result out.new }
-{
-    let kind = kinds[case];
-    if kind == 0 {
-        return at;
-    }
-    let b = [2u8, 0, 2, case as u8, kind];
-    let to = wire::put_at(out, at, &b);
-    put_stations(effects, out, to, case)
-}
-
-pub fn put_cases(kinds: &[u8; 32], effects: &Effects, out: &mut [u8], at: usize) -> usize
-    requires { at + 32 * case_most ≤ length out.old }
-    ensures { Put out.old at (up_to (case_bytes (λ k. get_or kinds.now k 0) (effect_in effects.now)) 32) result out.new }
-{
-    let mut to = at;
-    let mut i = 0;
-    while i < 32 {
-        to = put_case(kinds, effects, out, to, i);
-        i += 1;
-    }
-    to
-}
-
-fn put_capacity(capacities: &[u16; 48], out: &mut [u8], at: usize, station: usize) -> usize
-    requires { (station < 16) × (at + capacity_most ≤ length out.old) }
-    ensures { Put out.old at (capacity_bytes (capacity_in capacities.now) station) result out.new }
-{
-    let n = capacity_in(capacities, station, 0);
-    if n == 0 {
-        return at;
-    }
-    let y = capacity_in(capacities, station, 1);
-    let z = capacity_in(capacities, station, 2);
-    let b = [5u8, 0, 7, station as u8];
-    let to = wire::put_at(out, at, &b);
-    put_words(out, to, n, y, z)
-}
-
-pub fn put_capacities(capacities: &[u16; 48], out: &mut [u8], at: usize) -> usize
-    requires { at + 16 * capacity_most ≤ length out.old }
-    ensures { Put out.old at (up_to (capacity_bytes (capacity_in capacities.now)) 16) result out.new }
-{
-    let mut to = at;
-    let mut i = 0;
-    while i < 16 {
-        to = put_capacity(capacities, out, to, i);
-        i += 1;
-    }
-    to
-}
-
-// Bytes that are written unless there is no need for them.
-fn put_unless(none: bool, bytes: &[u8], out: &mut [u8], at: usize) -> usize
-    requires { at + length bytes.now ≤ length out.old }
-    ensures { Put out.old at (cond none [] bytes.now) result out.new }
-{
-    if none {
-        return at;
-    }
-    wire::put_at(out, at, bytes)
-}
-
-// The settings: tag 01, tag 08 unless the ice rows are off, tag 09 unless the factor of T is 1000.
-pub fn put_settings(s: Settings, out: &mut [u8]) -> usize
-    requires { settings_most ≤ length out.old }
-    ensures { Put out.old 0 (settings_bytes s) result out.new }
-{
-    let first = [1u8, 0, 3, s.method, s.live, s.zone];
-    let at = wire::put_at(out, 0, &first);
-    let ice = [8u8, 0, 1, s.ice];
-    let to = put_unless(s.ice == 0, &ice, out, at);
-    let high = (s.straining / 256) as u8;
-    let low = (s.straining % 256) as u8;
-    let straining = [9u8, 0, 2, high, low];
-    put_unless(s.straining == 1000, &straining, out, to)
+    let at = station * STATION_EFFECTS + case * COMPONENTS;
+    [effects[at], effects[at + 1], effects[at + 2]]
 }

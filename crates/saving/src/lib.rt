@@ -1,54 +1,41 @@
 #![tactic(auto)]
 
 // Writes a sheet as the fields that make it.
-ghost use Rattle.std.specs.Prelude.{◌≡◌, ◌≤◌, List, ℤ, length};
-ghost use Rattle.wire.specs.Bytes.{Put};
-ghost use Rattle.sheet.specs.Parts.{whole};
-ghost use Rattle.saved_fields.specs.Saved.{saved_bytes, saved_most};
+ghost use Rattle.std.specs.Prelude.{◌≡◌, length};
+ghost use Rattle.saved_fields.specs.Saved.{saved_bytes};
 ghost use Rattle.saving.specs.Saving.{saved_over, saved_answer};
 
-use effects::Effects;
-use sheet::{Rest, Sheet};
+use refusals::Refusal;
+use saved_fields::SavedFields;
+use sheet::Sheet;
 
-// The most bytes of a saved sheet.
-pub const SAVED_MOST: usize = 6 + 4 + 5 + 32 * (5 + 16 * 11) + 16 * 10;
-
-// The count of bytes written, or the refusal 14.
-#[derive(Clone, Copy)]
-pub enum Saved {
-    Written(usize),
-    Refused(u8),
+fn fields_of(sheet: &Sheet) -> SavedFields
+    ensures { result ≡ saved_bytes sheet.now }
+{
+    let mut fields = SavedFields::new();
+    fields.push_settings(sheet.settings);
+    fields.push_cases(&sheet.kinds, &sheet.effects);
+    fields.push_capacities(&sheet.capacities);
+    fields
 }
 
-fn put_all(rest: Rest, effects: &Effects, out: &mut [u8]) -> usize
-    requires { saved_most ≤ length out.old }
-    ensures { (sums : List ℤ) → Put out.old 0 (saved_bytes (whole rest effects.now sums)) result out.new }
+// Saves a sheet over the front of the output: how many bytes were written. Too short an output is refused, and nothing is written.
+pub fn save_in(sheet: &Sheet, out: &mut [u8]) -> Result<usize, Refusal>
+    ensures { (result ≡ saved_answer sheet.now (length out.old)) × (out.new ≡ saved_over sheet.now out.old) }
 {
-    let s = rest.settings;
-    let kinds = rest.kinds;
-    let capacities = rest.capacities;
-    let cases = saved_fields::put_settings(s, out);
-    let stations = saved_fields::put_cases(&kinds, effects, out, cases);
-    saved_fields::put_capacities(&capacities, out, stations)
-}
-
-// Saves a sheet over the front of the output, or refuses with 14 and writes nothing. The effects are lent; the sums aren't saved.
-pub fn save_in(rest: Rest, effects: &Effects, out: &mut [u8]) -> Saved
-    ensures { (sums : List ℤ) → (result ≡ saved_answer (whole rest effects.now sums) (length out.old)) × (out.new ≡ saved_over (whole rest effects.now sums) out.old) }
-{
-    let mut buffer = [0u8; SAVED_MOST];
-    let n = put_all(rest, effects, &mut buffer);
+    let fields = fields_of(sheet);
+    let bytes = fields.as_slice();
+    let n = bytes.len();
     if out.len() < n {
-        return Saved::Refused(14);
+        return Err(Refusal::ShortOutput);
     }
-    let w = wire::put_at(out, 0, &buffer[..n]);
-    Saved::Written(w)
+    out[..n].copy_from_slice(bytes);
+    Ok(n)
 }
 
-// The same for a whole sheet.
-pub fn save(sheet: Sheet, out: &mut [u8]) -> Saved
+// The same for a sheet that is passed by value.
+pub fn save(sheet: Sheet, out: &mut [u8]) -> Result<usize, Refusal>
     ensures { (result ≡ saved_answer sheet (length out.old)) × (out.new ≡ saved_over sheet out.old) }
 {
-    let effects = sheet.effects;
-    save_in(sheet.rest(), &effects, out)
+    save_in(&sheet, out)
 }

@@ -97,12 +97,12 @@ pub effect_replaced : (s : Sheet) (k t : ℕ) (n y z : ℤ) (j : ℕ) → WellFo
     effect_at (with_effects s k t n y z) k t j ≡ get_or (n ∷ y ∷ z ∷ []) j (pos 0)
 unfolding effect_at with_effects
 effect_replaced s k t n y z j h a b g =
-    effects_at_lem s.effects k t n y z j h.effects a b g
+    effects_at_lem s.effects k t (n ∷ y ∷ z ∷ []) refl j h.effects a b g
 
 pub effect_other : (s : Sheet) (k t : ℕ) (n y z : ℤ) (k' t' j : ℕ) → k < case_count → k' < case_count → j < component_count → ((k' ≡ k) × (t' ≡ t) → ⊥) →
     effect_at (with_effects s k t n y z) k' t' j ≡ effect_at s k' t' j
 unfolding effect_at with_effects
-effect_other s k t n y z k' t' j a b g ne = effects_other s.effects k t n y z k' t' j a b ne g
+effect_other s k t n y z k' t' j a b g ne = effects_other s.effects k t (n ∷ y ∷ z ∷ []) refl k' t' j a b ne g
 
 pub effects_leave_kind : (s : Sheet) (k t : ℕ) (n y z : ℤ) (k' : ℕ) → kind_at (with_effects s k t n y z) k' ≡ kind_at s k'
 unfolding with_effects
@@ -125,7 +125,7 @@ capacity_replaced s t n y z j h a g =
 
 pub capacity_other : (s : Sheet) (t n y z t' j : ℕ) → j < component_count → (t' ≡ t → ⊥) → capacity_at (with_capacities s t n y z) t' j ≡ capacity_at s t' j
 unfolding capacity_at with_capacities
-capacity_other s t n y z t' j g ne = triple_other 0 s.capacities n y z (t * 3) (t' * 3) t t' j refl refl ne g
+capacity_other s t n y z t' j g ne = triple_other 0 s.capacities (n ∷ y ∷ z ∷ []) refl (t * 3) (t' * 3) t t' j refl refl ne g
 
 pub capacities_leave_kind : (s : Sheet) (t n y z k : ℕ) → kind_at (with_capacities s t n y z) k ≡ kind_at s k
 unfolding with_capacities

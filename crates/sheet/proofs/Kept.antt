@@ -73,7 +73,7 @@ fill_kept s k v h e = let f = fill_range (kind_at s k) k v e in kind_kept s k v 
 pub emptied_kept : (s : Sheet) (k : ℕ) → InRange s → due_empty s k ≡ 0 → InRange (with_kind s k 0)
 emptied_kept s k h e = kind_kept s k 0 h (empty_range (kind_at s k) k e).case (omega arith)
 
-three : {A : Type 0} (P : A → Type 0) {a b c d : A} → P a → P b → P c → P d → (i : ℕ) → P (get_or (a ∷ b ∷ c ∷ []) i d)
+pub three : {A : Type 0} (P : A → Type 0) {a b c d : A} → P a → P b → P c → P d → (i : ℕ) → P (get_or (a ∷ b ∷ c ∷ []) i d)
 three P pa pb pc pd zero = pa
 three P pa pb pc pd (suc zero) = pb
 three P pa pb pc pd (suc (suc zero)) = pc

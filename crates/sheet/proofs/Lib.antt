@@ -2,6 +2,5 @@ pub mod Refusals
 pub mod Access
 pub mod Kept
 pub mod Stations
-pub mod Parts
 pub mod Edits
 pub mod Promised

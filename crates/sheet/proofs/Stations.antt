@@ -1,13 +1,13 @@
 -- The station of a sheet in range is in the envelope's range, its effects are those that the accessor gives, and its sums are the totals.
 -- Assumes nothing.
-use Prim.Native.Nat.{ℕ, suc, ◌+◌, ◌*◌, ◌-◌, ◌<◌, ◌≤◌}
+use Prim.Native.Nat.{ℕ, suc, ◌+◌, ◌*◌, ◌<◌, ◌≤◌}
 use native.Mathlib.Nat.{add-zero}
 use native.Mathlib.Omega.{arith}
 use mathlib.Core.Bool.{false, cond}
 use mathlib.Core.List.{List}
 use mathlib.Core.Logic.{⊎_elim}
-use mathlib.Core.Path.{◌≡◌, sym, ap, subst, ◌∙◌}
-use lib.ListN.{length, get_or, take, drop, length-take, length-drop, get_or-eq_default}
+use mathlib.Core.Path.{◌≡◌, sym, ap, ◌∙◌}
+use lib.ListN.{length, get_or, length-take, length-drop, get_or-eq_default}
 use lib.Seq.{get_or-take, get_or-drop}
 use lib.IntN.{ℤ, pos, nat_abs}
 use Rattle.wire.proofs.Cases.{lt_or_ge}
@@ -21,25 +21,17 @@ use Rattle.effects.specs.Effects.{station_length, effect_in, place}
 use Rattle.dead_sums.specs.DeadSums.{station_sums, dead_sum_count, sum_place, sum_in, of_dead_kind}
 use Rattle.dead_sums.proofs.Sums.{sums_long, sum_is}
 use Rattle.sheet.specs.declared.Sheet.{Sheet}
-use Rattle.sheet.specs.Sheet.{effect_at, capacity_at}
+use Rattle.sheet.specs.Sheet.{totals_in, effect_at, capacity_at}
 use Rattle.refusals.specs.Refusals.{capacity_outside}
 use Rattle.sheet.specs.Range.{InRange}
 use Rattle.sheet.specs.Looks.{station_effects, capacities_at}
 use Rattle.refusals.proofs.Fits.{inside}
 
--- the part that the code lends
-pub part_is : (s : Sheet) (t : ℕ) → take (t * station_length + station_length - t * station_length) (drop (t * station_length) s.effects) ≡ station_effects s t
-unfolding station_effects
-part_is s t = let e : t * station_length + station_length - t * station_length ≡ station_length = omega arith in ap (λ (n : ℕ). take n (drop (t * station_length) s.effects)) e
-
--- the sums that it lends
+-- the sums of a station of a sheet
 abbrev pub station_totals : Sheet → ℕ → List ℤ
-station_totals s t = take station_sums (drop (t * station_sums) s.sums)
+station_totals s t = totals_in s.sums t
 
-pub totals_part_is : (s : Sheet) (t : ℕ) → take (t * station_sums + station_sums - t * station_sums) (drop (t * station_sums) s.sums) ≡ station_totals s t
-totals_part_is s t = let e : t * station_sums + station_sums - t * station_sums ≡ station_sums = omega arith in ap (λ (n : ℕ). take n (drop (t * station_sums) s.sums)) e
-
--- and the capacities that it reads
+-- the capacities, as the code reads them
 pub capacities_read : (s : Sheet) (t : ℕ) →
     ◌≡◌ {A = Capacities} (record { n = get_or s.capacities (t * 3) 0; y = get_or s.capacities (t * 3 + 1) 0; z = get_or s.capacities (t * 3 + 2) 0 }) (capacities_at s t)
 unfolding capacities_at capacity_at
@@ -94,13 +86,6 @@ module _ (s : Sheet) (t : ℕ) (h : InRange s) (l : t < station_count) where
           ∙ sum_is (of_dead_kind s.kinds) s.effects j t c m l b
           ∙ where_agrees case_count (of_dead_kind s.kinds j) (of_dead_kind s.kinds j) (λ k. effect_in s.effects k t c) (λ k. effect_of (station_effects s t) k c)
           (λ k n. ap (λ (x : ℤ). cond (of_dead_kind s.kinds j k) x (pos 0)) (sym (effect_seen k c n b)))
-
-  -- as the code lends them
-  pub held_parts : TotalsHeld (take (t * station_sums + station_sums - t * station_sums) (drop (t * station_sums) s.sums)) s.kinds
-      (take (t * station_length + station_length - t * station_length) (drop (t * station_length) s.effects))
-  held_parts =
-      subst (λ (x : List ℤ). TotalsHeld x s.kinds (take (t * station_length + station_length - t * station_length) (drop (t * station_length) s.effects))) (sym (totals_part_is s t))
-      (subst (TotalsHeld (station_totals s t) s.kinds) (sym (part_is s t)) totals_held)
 
   pub capacities_in_range : 0 < capacity_at s t 0 → CapacitiesInRange (capacities_at s t)
   unfolding capacities_at

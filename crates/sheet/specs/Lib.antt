@@ -2,4 +2,3 @@ pub mod Sheet
 pub mod Edits
 pub mod Range
 pub mod Looks
-pub mod Parts

@@ -1,11 +1,13 @@
 -- SCOPE 5.2: tags 06 and 07 answer the extremes and the utilisation, and change nothing.
-use Rattle.std.specs.Prelude.{ℕ, List, cond, ◌≡◌, eqb, ℤ}
+use Rattle.std.specs.Prelude.{ℕ, List, cond, ◌≡◌, eqb, ℤ, Result, Ok, Err}
 use Rattle.standard.specs.declared.Capacities.{Capacities}
 use Rattle.envelope.specs.declared.Extremes as extremes
 use Rattle.envelope.specs.declared.Utilised.{Utilised}
 use Rattle.envelope.specs.Range.{effect_of}
 use Rattle.envelope.specs.Envelope.{extremes_of, utilised_of}
 use Rattle.station.specs.Promises.{ExtremesGovern, UtilisationGoverns}
+use Rattle.refusals.specs.declared.Refusal.{Refusal}
+use Rattle.refusals.specs.Numbers.{number}
 use Rattle.refusals.specs.Refusals.{due_extremes, due_utilisation_at}
 use Rattle.effects.specs.Effects.{station_in}
 use Rattle.sheet.specs.declared.Sheet.{Sheet}
@@ -47,6 +49,15 @@ looked_utilisation s station = record { answer = unless_due (due_utilisation s s
 -- what an edit answers: 0 is accepted (SCOPE 6.1, 7.2)
 abbrev pub answer_of : ℕ → Answer
 answer_of due = unless_due due answer.Accepted
+
+-- what a field in place replies, as its answer: a refusal by its number (SCOPE 7.1)
+abbrev pub as_answer : Result Answer Refusal → Answer
+as_answer (Ok a) = a
+as_answer (Err refusal) = answer.Refused (number refusal)
+
+-- this answer with the sheet after it
+abbrev pub answered : Result Answer Refusal → Sheet → Answered
+answered replied s = record { answer = as_answer replied; sheet = s }
 
 -- an edit's answer: accepted, or its refusal
 abbrev pub edited : Edited → Answered

@@ -1,12 +1,12 @@
 -- SCOPE 2.1, 2.7 and 5.2: what a sheet holds, seen through accessors, and what each edit makes of it.
-use Rattle.std.specs.Prelude.{ℕ, ◌+◌, ◌*◌, List, [], ◌∷◌, get_or, set, replicate, ℤ}
+use Rattle.std.specs.Prelude.{ℕ, ◌+◌, ◌*◌, List, [], ◌∷◌, get_or, set, replicate, take, drop, ℤ}
 use Rattle.std.proofs.lemmas.List.Edits.{sets}
 use Rattle.standard.specs.declared.Settings.{Settings}
 use Rattle.standard.specs.Combination.{case_count}
 use Rattle.standard.specs.Rows.{switched, strained, fresh_settings}
 use Rattle.envelope.specs.Range.{station_count, component_count}
 use Rattle.effects.specs.Effects.{effect_count, place, effect_in, zeros, cleared}
-use Rattle.dead_sums.specs.DeadSums.{dead_sum_count, sums_of}
+use Rattle.dead_sums.specs.DeadSums.{station_sums, dead_sum_count, sums_of}
 use Rattle.sheet.specs.declared.Sheet.{Sheet}
 
 -- the kind at a place: 0 where it is empty, or no place (SCOPE 2.1)
@@ -27,6 +27,10 @@ capacity_in capacities station j = get_or capacities (station * component_count 
 -- a capacity of a station, 0 where it has none (SCOPE 2.5)
 unfoldable pub capacity_at : Sheet → ℕ → ℕ → ℕ
 capacity_at s station j = capacity_in s.capacities station j
+
+-- the sums of a station, of D and then of F
+abbrev pub totals_in : List ℤ → ℕ → List ℤ
+totals_in sums station = take station_sums (drop (station * station_sums) sums)
 
 -- tag 01: empty places, no effects, so all sums 0, and no capacities (SCOPE 2.6, 5.2)
 unfoldable pub fresh : Settings → Sheet

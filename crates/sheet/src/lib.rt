@@ -1,24 +1,25 @@
 #![tactic(auto)]
 
-// The sheet: settings, 32 case places and 16 stations, and the edits of tags 01 to 05.
-ghost use Rattle.std.specs.Prelude.{◌≡◌, get_or, set, ℤ, List, [], ◌∷◌, ◌*◌, ◌<◌};
-ghost use Rattle.std.proofs.lemmas.List.Edits.{sets};
+// The sheet: settings, 32 case places and 16 stations; the edits of tags 01 to 05, 08 and 09, the looks and the names of cases.
+ghost use Rattle.std.specs.Prelude.{◌≡◌, ◌<◌};
+ghost use Rattle.std.specs.Fn.{FnOnceReturnsAtMut, FnOnceTakesAtMut};
 ghost use Rattle.wire.specs.Bytes.{signed16};
-ghost use Rattle.standard.specs.Combination.{case_count};
 ghost use Rattle.standard.specs.Rows.{settings_of};
-ghost use Rattle.envelope.specs.Range.{station_count, component_count};
+ghost use Rattle.envelope.specs.Range.{station_count};
 ghost use Rattle.refusals.specs.Refusals.{due_settings, due_capacities, due_extremes, due_switch, due_name};
-ghost use Rattle.sheet.specs.Sheet.{fresh, with_kind, with_effects, with_capacities, with_settings, with_switch, with_straining};
+ghost use Rattle.effects.specs.Effects.{station_in};
+ghost use Rattle.sheet.specs.Sheet.{fresh, kind_at, capacity_at, totals_in, with_kind, with_effects, with_capacities, with_settings, with_switch, with_straining};
 ghost use Rattle.sheet.specs.Range.{InRange};
-ghost use Rattle.sheet.specs.Looks.{extremes_at, utilisation_at, unless_due, edited, due_utilisation, looked_extremes, looked_utilisation, ExtremesPromised, UtilisationPromised};
-ghost use Rattle.sheet.specs.Parts.{rest_of, whole, whole_of};
+ghost use Rattle.sheet.specs.Looks.{extremes_at, utilisation_at, unless_due, edited, as_answer, answered, capacities_at, due_utilisation, looked_extremes, looked_utilisation, ExtremesPromised, UtilisationPromised};
 ghost use Rattle.sheet.specs.Edits.{due_fill, due_effects, due_empty, due_factor, unless_refused};
 
 use dead_sums::{DEAD_SUMS, DeadSums, STATION_SUMS};
 use effects::{COMPONENTS, EFFECTS, Effects, STATION_EFFECTS, STATIONS};
 use envelope::{Extremes, Utilised};
+use refusals::Refusal;
 use standard::{CASES, Capacities, Settings};
 
+// Stays: one flat array, as the definitions and the saved form read a capacity by station and component.
 const CAPACITIES: usize = STATIONS * COMPONENTS;
 
 #[derive(Clone, Copy)]
@@ -31,12 +32,25 @@ pub struct Sheet {
 }
 
 // What reading a field answers.
+// Stays: a refusal is its number here, as it is answered (docs/DECISIONS.md).
 #[derive(Clone, Copy)]
 pub enum Answer {
     Accepted,
     Extremes(Extremes),
     Utilisation(Utilised),
     Refused(u8),
+}
+
+/// A refusal is answered by its number.
+impl From<Result<Answer, Refusal>> for Answer {
+    ghost from_gives = { λ replied answer. answer ≡ as_answer replied };
+
+    fn from(replied: Result<Answer, Refusal>) -> Answer {
+        match replied {
+            Ok(answer) => answer,
+            Err(refusal) => Answer::Refused(u8::from(refusal)),
+        }
+    }
 }
 
 // An answer with the sheet beside it.
@@ -53,45 +67,219 @@ pub struct Edited {
     pub sheet: Sheet,
 }
 
-// A sheet apart from its effects and sums: the fields that work on it are lent those, and copy none.
-#[derive(Clone, Copy)]
-pub struct Rest {
-    pub settings: Settings,
-    pub kinds: [u8; CASES],
-    pub capacities: [u16; CAPACITIES],
-}
-
-// An answer with the rest beside it.
-#[derive(Clone, Copy)]
-pub struct AnsweredRest {
-    pub answer: Answer,
-    pub rest: Rest,
-}
-
 impl Sheet {
     pub fn fresh(settings: Settings) -> Sheet
         ensures { result ≡ fresh settings }
     {
         Sheet {
             settings,
-            kinds: [0u8; CASES],
-            effects: [0i16; EFFECTS],
-            sums: [0i64; DEAD_SUMS],
-            capacities: [0u16; CAPACITIES],
+            kinds: [0; CASES],
+            effects: [0; EFFECTS],
+            sums: [0; DEAD_SUMS],
+            capacities: [0; CAPACITIES],
         }
     }
 
-    // The sheet apart from its effects and sums.
-    pub fn rest(self) -> Rest
-        ensures { result ≡ rest_of self }
+    // The kind at a place: 0 where it is empty, or no place.
+    // Stays: 0 for an empty place, since the sheet's kinds are bytes of any value. So `held` in refusals.
+    fn kind(&self, case: u8) -> u8
+        ensures { result ≡ kind_at self.now case }
     {
-        let settings = self.settings;
-        let kinds = self.kinds;
-        let capacities = self.capacities;
-        Rest {
-            settings,
-            kinds,
-            capacities,
+        self.kinds.get(usize::from(case)).copied().unwrap_or(0)
+    }
+
+    // Tag 01, in place.
+    #[tactic(auto, using(crate::proofs::Refusals::made, crate::proofs::Refusals::refused))]
+    pub fn restart_in(&mut self, method: u8, live: u8, zone: u8) -> Result<Answer, Refusal>
+        ensures { answered result self.new ≡ edited (unless_refused (due_settings method live zone) self.old (fresh (settings_of method live zone))) }
+    {
+        refusals::check_settings(method, live, zone)?;
+        *self = Sheet::fresh(Settings::of(method, live, zone));
+        Ok(Answer::Accepted)
+    }
+
+    // Tag 02, in place. An empty place has no effects, so that none is stored, and no sum changes.
+    #[tactic(auto, using(crate::proofs::Refusals::refused))]
+    pub fn fill_in(&mut self, case: u8, kind: u8) -> Result<Answer, Refusal>
+        requires { InRange self.old }
+        ensures { answered result self.new ≡ edited (unless_refused (due_fill self.old case kind) self.old (with_kind self.old case kind)) }
+    {
+        refusals::check_fill(case, kind, self.kind(case))?;
+        self.kinds[usize::from(case)] = kind;
+        Ok(Answer::Accepted)
+    }
+
+    // Tag 03, in place.
+    // Stays: three numbers, here and in tag 05, since the clauses name each by its own refusal.
+    #[tactic(auto, using(crate::proofs::Refusals::refused))]
+    pub fn replace_effects_in(
+        &mut self,
+        case: u8,
+        station: u8,
+        n: u16,
+        y: u16,
+        z: u16,
+    ) -> Result<Answer, Refusal>
+        requires { InRange self.old }
+        ensures { answered result self.new ≡ edited (unless_refused (due_effects self.old case station n y z) self.old (with_effects self.old case station (signed16 n) (signed16 y) (signed16 z))) }
+    {
+        refusals::check_effects(case, station, n, y, z, self.kind(case))?;
+        let values = [n.cast_signed(), y.cast_signed(), z.cast_signed()];
+        dead_sums::put_effects(
+            &mut self.effects,
+            &mut self.sums,
+            &self.kinds,
+            usize::from(case),
+            usize::from(station),
+            values,
+        );
+        Ok(Answer::Accepted)
+    }
+
+    // Tag 04, in place. The effects are cleared while the place holds its kind, so that the sums of that kind change.
+    #[tactic(auto, using(crate::proofs::Refusals::refused))]
+    pub fn empty_in(&mut self, case: u8) -> Result<Answer, Refusal>
+        requires { InRange self.old }
+        ensures { answered result self.new ≡ edited (unless_refused (due_empty self.old case) self.old (with_kind self.old case 0)) }
+    {
+        refusals::check_empty(case, self.kind(case))?;
+        let k = usize::from(case);
+        dead_sums::clear_case(&mut self.effects, &mut self.sums, &self.kinds, k);
+        self.kinds[k] = 0;
+        Ok(Answer::Accepted)
+    }
+
+    // Tag 05, in place.
+    #[tactic(auto, using(crate::proofs::Refusals::refused))]
+    pub fn replace_capacities_in(
+        &mut self,
+        station: u8,
+        n: u16,
+        y: u16,
+        z: u16,
+    ) -> Result<Answer, Refusal>
+        ensures { answered result self.new ≡ edited (unless_refused (due_capacities station n y z) self.old (with_capacities self.old station n y z)) }
+    {
+        refusals::check_capacities(station, n, y, z)?;
+        let at = usize::from(station) * COMPONENTS;
+        self.capacities[at] = n;
+        self.capacities[at + 1] = y;
+        self.capacities[at + 2] = z;
+        Ok(Answer::Accepted)
+    }
+
+    // Tag 08, in place.
+    #[tactic(auto, using(crate::proofs::Refusals::made, crate::proofs::Refusals::refused), unfolding(crate::specs::Sheet::with_settings))]
+    pub fn switch_ice_in(&mut self, byte: u8) -> Result<Answer, Refusal>
+        ensures { answered result self.new ≡ edited (unless_refused (due_switch byte) self.old (with_switch self.old byte)) }
+    {
+        refusals::check_switch(byte)?;
+        self.settings = self.settings.switched(byte);
+        Ok(Answer::Accepted)
+    }
+
+    // Tag 09, in place.
+    #[tactic(auto, using(crate::proofs::Refusals::made, crate::proofs::Refusals::refused), unfolding(crate::specs::Sheet::with_settings))]
+    pub fn set_straining_in(&mut self, factor: u16) -> Result<Answer, Refusal>
+        ensures { answered result self.new ≡ edited (unless_refused (due_factor self.old factor) self.old (with_straining self.old factor)) }
+    {
+        refusals::check_straining(self.settings.method, factor)?;
+        self.settings = self.settings.strained(factor);
+        Ok(Answer::Accepted)
+    }
+
+    // Tag 60, in place: a sheet holds no names.
+    #[tactic(auto, using(crate::proofs::Refusals::made, crate::proofs::Refusals::refused))]
+    pub fn name_case_in(&mut self, case: u8) -> Result<Answer, Refusal>
+        ensures { answered result self.new ≡ edited (unless_refused (due_name case) self.old self.old) }
+    {
+        refusals::check_name(case)?;
+        Ok(Answer::Accepted)
+    }
+
+    // The effects of a station.
+    fn station_effects(&self, station: usize) -> &[i16]
+        requires { station < station_count }
+        ensures { result.now ≡ station_in self.now.effects station }
+    {
+        let from = station * STATION_EFFECTS;
+        &self.effects[from..from + STATION_EFFECTS]
+    }
+
+    // The sums of a station.
+    fn station_sums(&self, station: usize) -> &[i64]
+        requires { station < station_count }
+        ensures { result.now ≡ totals_in self.now.sums station }
+    {
+        let from = station * STATION_SUMS;
+        &self.sums[from..from + STATION_SUMS]
+    }
+
+    // The first capacity of a station: 0 where it has none, or there is no such station.
+    #[tactic(auto, unfolding(crate::specs::Sheet::capacity_at))]
+    fn first_capacity(&self, station: u8) -> u16
+        ensures { result ≡ capacity_at self.now station 0 }
+    {
+        let at = usize::from(station) * COMPONENTS;
+        self.capacities.get(at).copied().unwrap_or(0)
+    }
+
+    // The capacities of a station.
+    fn station_capacities(&self, station: usize) -> Capacities
+        requires { station < station_count }
+        ensures { result ≡ capacities_at self.now station }
+    {
+        let at = station * COMPONENTS;
+        Capacities {
+            n: self.capacities[at],
+            y: self.capacities[at + 1],
+            z: self.capacities[at + 2],
+        }
+    }
+
+    // Tag 06.
+    pub fn extremes(&self, station: u8, component: u8) -> Result<Answer, Refusal>
+        requires { InRange self.now }
+        ensures { (as_answer result ≡ unless_due (due_extremes station component) (Answer.Extremes (extremes_at self.now station component))) × ExtremesPromised self.now station component (as_answer result) }
+    {
+        refusals::check_extremes(station, component)?;
+        let t = usize::from(station);
+        let extremes = station::extremes_of(
+            self.settings,
+            &self.kinds,
+            self.station_effects(t),
+            self.station_sums(t),
+            usize::from(component),
+        );
+        Ok(Answer::Extremes(extremes))
+    }
+
+    // Tag 07.
+    pub fn utilisation(&self, station: u8) -> Result<Answer, Refusal>
+        requires { InRange self.now }
+        ensures { (as_answer result ≡ unless_due (due_utilisation self.now station) (Answer.Utilisation (utilisation_at self.now station))) × UtilisationPromised self.now station (as_answer result) }
+    {
+        refusals::check_utilisation(station, self.first_capacity(station))?;
+        let t = usize::from(station);
+        let utilised = station::utilisation_of(
+            self.settings,
+            &self.kinds,
+            self.station_effects(t),
+            self.station_sums(t),
+            self.station_capacities(t),
+        );
+        Ok(Answer::Utilisation(utilised))
+    }
+
+    // A field by value: what it answers, and the sheet after it.
+    fn after<F: FnOnce(&mut Sheet) -> Result<Answer, Refusal>>(mut self, field: F) -> Answered
+        requires { FnOnceTakesAtMut F.FnOnce field self }
+        ensures { (replied : _) × FnOnceReturnsAtMut F.FnOnce field self replied result.sheet × (result ≡ answered replied result.sheet) }
+    {
+        let replied = field(&mut self);
+        Answered {
+            answer: Answer::from(replied),
+            sheet: self,
         }
     }
 
@@ -99,12 +287,7 @@ impl Sheet {
     pub fn restart(self, method: u8, live: u8, zone: u8) -> Answered
         ensures { result ≡ edited (unless_refused (due_settings method live zone) self (fresh (settings_of method live zone))) }
     {
-        let mut effects = self.effects;
-        let mut sums = self.sums;
-        let r = self
-            .rest()
-            .restart(&mut effects, &mut sums, method, live, zone);
-        r.with_effects(effects, sums)
+        self.after(|s| s.restart_in(method, live, zone))
     }
 
     // Tag 02.
@@ -112,10 +295,7 @@ impl Sheet {
         requires { InRange self }
         ensures { result ≡ edited (unless_refused (due_fill self case kind) self (with_kind self case kind)) }
     {
-        let effects = self.effects;
-        let sums = self.sums;
-        let r = self.rest().fill(case, kind);
-        r.with_effects(effects, sums)
+        self.after(|s| s.fill_in(case, kind))
     }
 
     // Tag 03.
@@ -123,12 +303,7 @@ impl Sheet {
         requires { InRange self }
         ensures { result ≡ edited (unless_refused (due_effects self case station n y z) self (with_effects self case station (signed16 n) (signed16 y) (signed16 z))) }
     {
-        let mut effects = self.effects;
-        let mut sums = self.sums;
-        let r = self
-            .rest()
-            .replace_effects(&mut effects, &mut sums, case, station, n, y, z);
-        r.with_effects(effects, sums)
+        self.after(|s| s.replace_effects_in(case, station, n, y, z))
     }
 
     // Tag 04.
@@ -136,50 +311,35 @@ impl Sheet {
         requires { InRange self }
         ensures { result ≡ edited (unless_refused (due_empty self case) self (with_kind self case 0)) }
     {
-        let mut effects = self.effects;
-        let mut sums = self.sums;
-        let r = self.rest().empty(&mut effects, &mut sums, case);
-        r.with_effects(effects, sums)
+        self.after(|s| s.empty_in(case))
     }
 
     // Tag 05.
     pub fn replace_capacities(self, station: u8, n: u16, y: u16, z: u16) -> Answered
         ensures { result ≡ edited (unless_refused (due_capacities station n y z) self (with_capacities self station n y z)) }
     {
-        let effects = self.effects;
-        let sums = self.sums;
-        let r = self.rest().replace_capacities(station, n, y, z);
-        r.with_effects(effects, sums)
+        self.after(|s| s.replace_capacities_in(station, n, y, z))
     }
 
     // Tag 08.
     pub fn switch_ice(self, byte: u8) -> Answered
         ensures { result ≡ edited (unless_refused (due_switch byte) self (with_switch self byte)) }
     {
-        let effects = self.effects;
-        let sums = self.sums;
-        let r = self.rest().switch_ice(byte);
-        r.with_effects(effects, sums)
+        self.after(|s| s.switch_ice_in(byte))
     }
 
     // Tag 09.
     pub fn set_straining(self, factor: u16) -> Answered
         ensures { result ≡ edited (unless_refused (due_factor self factor) self (with_straining self factor)) }
     {
-        let effects = self.effects;
-        let sums = self.sums;
-        let r = self.rest().set_straining(factor);
-        r.with_effects(effects, sums)
+        self.after(|s| s.set_straining_in(factor))
     }
 
     // Tag 60: a sheet holds no names.
     pub fn name_case(self, case: u8) -> Answered
         ensures { result ≡ edited (unless_refused (due_name case) self self) }
     {
-        let effects = self.effects;
-        let sums = self.sums;
-        let r = self.rest().name_case(case);
-        r.with_effects(effects, sums)
+        self.after(|s| s.name_case_in(case))
     }
 
     // Tag 06.
@@ -187,15 +347,7 @@ impl Sheet {
         requires { InRange self }
         ensures { (result ≡ looked_extremes self station component) × ExtremesPromised self station component result.answer }
     {
-        let effects = self.effects;
-        let sums = self.sums;
-        let answer = self
-            .rest()
-            .look_extremes(&effects, &sums, station, component);
-        Answered {
-            answer,
-            sheet: self,
-        }
+        self.after(|s| s.extremes(station, component))
     }
 
     // Tag 07.
@@ -203,325 +355,6 @@ impl Sheet {
         requires { InRange self }
         ensures { (result ≡ looked_utilisation self station) × UtilisationPromised self station result.answer }
     {
-        let effects = self.effects;
-        let sums = self.sums;
-        let answer = self.rest().look_utilisation(&effects, &sums, station);
-        Answered {
-            answer,
-            sheet: self,
-        }
-    }
-}
-
-// The number at a position of a list of numbers, 0 past its end.
-fn number_at(s: &[u16], at: usize) -> u16
-    ensures { result ≡ get_or s.now at 0 }
-{
-    if at < s.len() {
-        return s[at];
-    }
-    0
-}
-
-impl AnsweredRest {
-    // The answer with the whole sheet beside it.
-    fn with_effects(self, effects: Effects, sums: DeadSums) -> Answered
-        ensures { result ≡ whole_of self effects sums }
-    {
-        let answer = self.answer;
-        let rest = self.rest;
-        Answered {
-            answer,
-            sheet: rest.with_effects(effects, sums),
-        }
-    }
-}
-
-impl Rest {
-    // A fresh sheet apart from its effects and sums.
-    pub fn fresh(settings: Settings) -> Rest
-        ensures { result ≡ rest_of (fresh settings) }
-    {
-        Rest {
-            settings,
-            kinds: [0u8; CASES],
-            capacities: [0u16; CAPACITIES],
-        }
-    }
-
-    // The whole sheet.
-    pub fn with_effects(self, effects: Effects, sums: DeadSums) -> Sheet
-        ensures { result ≡ whole self effects sums }
-    {
-        let settings = self.settings;
-        let kinds = self.kinds;
-        let capacities = self.capacities;
-        Sheet {
-            settings,
-            kinds,
-            effects,
-            sums,
-            capacities,
-        }
-    }
-
-    fn with_kind(self, case: usize, kind: u8) -> Rest
-        requires { case < case_count }
-        ensures { result ≡ record { settings = self.settings; kinds = set self.kinds case kind; capacities = self.capacities } }
-    {
-        let mut r = self;
-        r.kinds[case] = kind;
-        r
-    }
-
-    fn with_capacities(self, station: usize, n: u16, y: u16, z: u16) -> Rest
-        requires { station < station_count }
-        ensures { result ≡ record { settings = self.settings; kinds = self.kinds; capacities = sets self.capacities (station * component_count) (n ∷ y ∷ z ∷ []) } }
-    {
-        let mut r = self;
-        let at = station * COMPONENTS;
-        r.capacities[at] = n;
-        r.capacities[at + 1] = y;
-        r.capacities[at + 2] = z;
-        r
-    }
-
-    // Other settings, where no refusal is due.
-    fn replace_settings(self, due: u8, settings: Settings) -> AnsweredRest
-        ensures { (effects sums : List ℤ) → whole_of result effects sums ≡ edited (unless_refused due (whole self effects sums) (with_settings (whole self effects sums) settings)) }
-    {
-        if due == 0 {
-            let mut rest = self;
-            rest.settings = settings;
-            return AnsweredRest {
-                answer: Answer::Accepted,
-                rest,
-            };
-        }
-        AnsweredRest {
-            answer: Answer::Refused(due),
-            rest: self,
-        }
-    }
-
-    // Tag 01.
-    pub fn restart(
-        self,
-        effects: &mut Effects,
-        sums: &mut DeadSums,
-        method: u8,
-        live: u8,
-        zone: u8,
-    ) -> AnsweredRest
-        ensures { whole_of result effects.new sums.new ≡ edited (unless_refused (due_settings method live zone) (whole self effects.old sums.old) (fresh (settings_of method live zone))) }
-    {
-        let due = refusals::due_settings(method, live, zone);
-        if due == 0 {
-            dead_sums::clear_all(effects, sums);
-            let rest = Rest::fresh(Settings::of(method, live, zone));
-            return AnsweredRest {
-                answer: Answer::Accepted,
-                rest,
-            };
-        }
-        AnsweredRest {
-            answer: Answer::Refused(due),
-            rest: self,
-        }
-    }
-
-    // Tag 02. An empty place has no effects, so that none is stored, and no sum changes.
-    pub fn fill(self, case: u8, kind: u8) -> AnsweredRest
-        ensures { (effects sums : List ℤ) → InRange (whole self effects sums) → whole_of result effects sums ≡ edited (unless_refused (due_fill (whole self effects sums) case kind) (whole self effects sums) (with_kind (whole self effects sums) case kind)) }
-    {
-        let k = case as usize;
-        let held = wire::byte(&self.kinds, k);
-        let due = refusals::due_fill(case, kind, held);
-        if due == 0 {
-            let rest = self.with_kind(k, kind);
-            return AnsweredRest {
-                answer: Answer::Accepted,
-                rest,
-            };
-        }
-        AnsweredRest {
-            answer: Answer::Refused(due),
-            rest: self,
-        }
-    }
-
-    // Tag 03.
-    pub fn replace_effects(
-        self,
-        effects: &mut Effects,
-        sums: &mut DeadSums,
-        case: u8,
-        station: u8,
-        n: u16,
-        y: u16,
-        z: u16,
-    ) -> AnsweredRest
-        requires { InRange (whole self effects.old sums.old) }
-        ensures { whole_of result effects.new sums.new ≡ edited (unless_refused (due_effects (whole self effects.old sums.old) case station n y z) (whole self effects.old sums.old) (with_effects (whole self effects.old sums.old) case station (signed16 n) (signed16 y) (signed16 z))) }
-    {
-        let k = case as usize;
-        let held = wire::byte(&self.kinds, k);
-        let due = refusals::due_effects(case, station, n, y, z, held);
-        if due == 0 {
-            let t = station as usize;
-            let kinds = self.kinds;
-            dead_sums::put_effects(
-                effects,
-                sums,
-                &kinds,
-                k,
-                t,
-                wire::signed(n),
-                wire::signed(y),
-                wire::signed(z),
-            );
-            return AnsweredRest {
-                answer: Answer::Accepted,
-                rest: self,
-            };
-        }
-        AnsweredRest {
-            answer: Answer::Refused(due),
-            rest: self,
-        }
-    }
-
-    // Tag 04.
-    pub fn empty(self, effects: &mut Effects, sums: &mut DeadSums, case: u8) -> AnsweredRest
-        requires { InRange (whole self effects.old sums.old) }
-        ensures { whole_of result effects.new sums.new ≡ edited (unless_refused (due_empty (whole self effects.old sums.old) case) (whole self effects.old sums.old) (with_kind (whole self effects.old sums.old) case 0)) }
-    {
-        let k = case as usize;
-        let held = wire::byte(&self.kinds, k);
-        let due = refusals::due_empty(case, held);
-        if due == 0 {
-            let filled = self.kinds;
-            dead_sums::clear_case(effects, sums, &filled, k);
-            let rest = self.with_kind(k, 0);
-            return AnsweredRest {
-                answer: Answer::Accepted,
-                rest,
-            };
-        }
-        AnsweredRest {
-            answer: Answer::Refused(due),
-            rest: self,
-        }
-    }
-
-    // Tag 05.
-    pub fn replace_capacities(self, station: u8, n: u16, y: u16, z: u16) -> AnsweredRest
-        ensures { (effects sums : List ℤ) → whole_of result effects sums ≡ edited (unless_refused (due_capacities station n y z) (whole self effects sums) (with_capacities (whole self effects sums) station n y z)) }
-    {
-        let due = refusals::due_capacities(station, n, y, z);
-        if due == 0 {
-            let rest = self.with_capacities(station as usize, n, y, z);
-            return AnsweredRest {
-                answer: Answer::Accepted,
-                rest,
-            };
-        }
-        AnsweredRest {
-            answer: Answer::Refused(due),
-            rest: self,
-        }
-    }
-
-    // Tag 08.
-    pub fn switch_ice(self, byte: u8) -> AnsweredRest
-        ensures { (effects sums : List ℤ) → whole_of result effects sums ≡ edited (unless_refused (due_switch byte) (whole self effects sums) (with_switch (whole self effects sums) byte)) }
-    {
-        let settings = self.settings;
-        let due = refusals::due_switch(byte);
-        self.replace_settings(due, settings.switched(byte))
-    }
-
-    // Tag 09.
-    pub fn set_straining(self, factor: u16) -> AnsweredRest
-        ensures { (effects sums : List ℤ) → whole_of result effects sums ≡ edited (unless_refused (due_factor (whole self effects sums) factor) (whole self effects sums) (with_straining (whole self effects sums) factor)) }
-    {
-        let settings = self.settings;
-        let due = refusals::due_straining(settings.method, factor);
-        self.replace_settings(due, settings.strained(factor))
-    }
-
-    // Tag 60: a sheet holds no names.
-    pub fn name_case(self, case: u8) -> AnsweredRest
-        ensures { (effects sums : List ℤ) → whole_of result effects sums ≡ edited (unless_refused (due_name case) (whole self effects sums) (whole self effects sums)) }
-    {
-        let due = refusals::due_name(case);
-        if due == 0 {
-            return AnsweredRest {
-                answer: Answer::Accepted,
-                rest: self,
-            };
-        }
-        AnsweredRest {
-            answer: Answer::Refused(due),
-            rest: self,
-        }
-    }
-
-    // Tag 06.
-    pub fn look_extremes(self, effects: &[i16], sums: &[i64], station: u8, component: u8) -> Answer
-        requires { InRange (whole self effects.now sums.now) }
-        ensures { (result ≡ unless_due (due_extremes station component) (Answer.Extremes (extremes_at (whole self effects.now sums.now) station component))) × ExtremesPromised (whole self effects.now sums.now) station component result }
-    {
-        let due = refusals::due_extremes(station, component);
-        if due == 0 {
-            let kinds = self.kinds;
-            let t = station as usize;
-            let from = t * STATION_EFFECTS;
-            let to = from + STATION_EFFECTS;
-            let first = t * STATION_SUMS;
-            let last = first + STATION_SUMS;
-            let x = station::extremes_of(
-                self.settings,
-                &kinds,
-                &effects[from..to],
-                &sums[first..last],
-                component as usize,
-            );
-            return Answer::Extremes(x);
-        }
-        Answer::Refused(due)
-    }
-
-    // Tag 07.
-    pub fn look_utilisation(self, effects: &[i16], sums: &[i64], station: u8) -> Answer
-        requires { InRange (whole self effects.now sums.now) }
-        ensures { (result ≡ unless_due (due_utilisation (whole self effects.now sums.now) station) (Answer.Utilisation (utilisation_at (whole self effects.now sums.now) station))) × UtilisationPromised (whole self effects.now sums.now) station result }
-    {
-        let kinds = self.kinds;
-        let capacities = self.capacities;
-        let t = station as usize;
-        let at = t * COMPONENTS;
-        let n = number_at(&capacities, at);
-        let due = refusals::due_utilisation(station, n);
-        if due == 0 {
-            let from = t * STATION_EFFECTS;
-            let to = from + STATION_EFFECTS;
-            let start = t * STATION_SUMS;
-            let end = start + STATION_SUMS;
-            let p = Capacities {
-                n: capacities[at],
-                y: capacities[at + 1],
-                z: capacities[at + 2],
-            };
-            let x = station::utilisation_of(
-                self.settings,
-                &kinds,
-                &effects[from..to],
-                &sums[start..end],
-                p,
-            );
-            return Answer::Utilisation(x);
-        }
-        Answer::Refused(due)
+        self.after(|s| s.utilisation(station))
     }
 }

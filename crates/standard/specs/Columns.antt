@@ -1,8 +1,8 @@
 -- How the constant table holds the lines: nothing that a reader must believe, since `factor` is proved against `factor_of`.
-use Rattle.std.specs.Prelude.{ℕ, Bool, true, false, cond, List, [], ◌∷◌, map, get_or, ltb}
+use Rattle.std.specs.Prelude.{ℕ, true, false, List, [], ◌∷◌, get_or, ltb}
 use Rattle.integers.specs.Sums.{mask_of}
 use Rattle.standard.specs.Kinds.{kind_count}
-use Rattle.standard.specs.Rows.{Line, lines, live_factor, roof_factor, snow_factor, fresh_settings, factor_of}
+use Rattle.standard.specs.Rows.{Line, lines, blank, live_factor, roof_factor, snow_factor, fresh_settings, factor_of}
 
 -- of each row the columns D, F, H, L, L with live option 1, roof, S, W, E, Fa, Di, Wi
 abbrev pub entries : Line → List ℕ
@@ -14,15 +14,9 @@ entries l =
     ∷ l.ice ∷ l.icewind
     ∷ []
 
-unfoldable pub row_table : List (List ℕ)
-row_table = map entries lines
-
--- the column of each kind
-abbrev pub kind_columns : Bool → List ℕ
-kind_columns halved = 0 ∷ 0 ∷ 1 ∷ 2 ∷ 2 ∷ cond halved 4 3 ∷ 5 ∷ 6 ∷ 5 ∷ 7 ∷ 8 ∷ 9 ∷ 10 ∷ 11 ∷ []
-
-unfoldable pub column_of : Bool → ℕ → ℕ
-column_of halved kind = get_or (kind_columns halved) kind 0
+-- of a row by its number
+unfoldable pub entries_in : ℕ → List ℕ
+entries_in row = entries (get_or lines row blank)
 
 -- the kinds that have a factor in a row, whatever the settings, as a set: bit j is kind j
 unfoldable pub kinds_in : ℕ → ℕ

@@ -1,5 +1,7 @@
 -- SCOPE 2.3 and 4.2: kinds of load, and how the cases of a kind may act.
 use Rattle.std.specs.Prelude.{ℕ, Bool, true, false, List, [], ◌∷◌, get_or}
+use Rattle.standard.specs.declared.Kind.{Kind}
+use Rattle.standard.specs.declared.Kind.TheVariants.{Dead, Fluid, EarthPermanent, EarthOther, Live, RoofLive, Snow, Rain, Wind, Earthquake, Flood, Ice, WindOnIce, SelfStraining}
 use Rattle.standard.specs.declared.Class.{Class}
 use Rattle.standard.specs.declared.Class.TheVariants.{Always, Together, Subset, OneOf, Unknown}
 
@@ -46,3 +48,20 @@ permanent_earth = 3
 -- T, the self-straining loads, whose factor is the sheet's (SCOPE 2.3, 3.9)
 abbrev pub self_straining : ℕ
 self_straining = 14
+
+-- the number of a kind (SCOPE 2.3)
+abbrev pub number_of : Kind → ℕ
+number_of Dead = 1
+number_of Fluid = fluid
+number_of EarthPermanent = permanent_earth
+number_of EarthOther = 4
+number_of Live = 5
+number_of RoofLive = 6
+number_of Snow = 7
+number_of Rain = 8
+number_of Wind = 9
+number_of Earthquake = 10
+number_of Flood = 11
+number_of Ice = 12
+number_of WindOnIce = 13
+number_of SelfStraining = self_straining

@@ -11,6 +11,25 @@ pub const ROWS: usize = 44;
 
 pub const CASES: usize = 32;
 
+// The kinds by their numbers.
+#[derive(Clone, Copy)]
+pub enum Kind {
+    Dead = 1,
+    Fluid = 2,
+    EarthPermanent = 3,
+    EarthOther = 4,
+    Live = 5,
+    RoofLive = 6,
+    Snow = 7,
+    Rain = 8,
+    Wind = 9,
+    Earthquake = 10,
+    Flood = 11,
+    Ice = 12,
+    WindOnIce = 13,
+    SelfStraining = 14,
+}
+
 // What a sheet sets for all its combinations. In this order it takes eight bytes, which are copied faster than six.
 #[derive(Clone, Copy)]
 pub struct Settings {
@@ -39,18 +58,25 @@ impl Settings {
     pub fn switched(self, ice: u8) -> Settings
         ensures { result ≡ switched ice self }
     {
-        let mut s = self;
-        s.ice = ice;
-        s
+        Settings { ice, ..self }
     }
 
     // The same with another factor of T.
     pub fn strained(self, factor: u16) -> Settings
         ensures { result ≡ strained factor self }
     {
-        let mut s = self;
-        s.straining = factor;
-        s
+        Settings {
+            straining: factor,
+            ..self
+        }
+    }
+
+    // The low factor of Hp.
+    #[tactic(auto, unfolding(crate::specs::Rows::low_of))]
+    pub fn low_factor(self) -> u16
+        ensures { result ≡ low_of self }
+    {
+        if self.method == 1 { 900 } else { 600 }
     }
 }
 
@@ -93,12 +119,4 @@ pub fn class_of(kind: usize) -> Class
         9..=13 => Class::OneOf(kind - 8),
         _ => Class::Unknown,
     }
-}
-
-// The low factor of Hp.
-#[tactic(auto, unfolding(crate::specs::Rows::low_of))]
-pub fn low_factor(s: Settings) -> u16
-    ensures { result ≡ low_of s }
-{
-    if s.method == 1 { 900 } else { 600 }
 }

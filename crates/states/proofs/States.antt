@@ -5,6 +5,7 @@ use mathlib.Core.Path.{◌≡◌, refl}
 use mathlib.Core.List.{List, ◌∷◌}
 use native.Mathlib.Omega.{arith}
 use lib.ListN.{length, drop, length-drop}
+use Rattle.std.specs.Prelude.{None}
 use Rattle.sheet.specs.declared.Sheet.{Sheet}
 use Rattle.sheet.specs.Sheet.{fresh_sheet}
 use Rattle.sheet.specs.Range.{InRange}
@@ -24,7 +25,7 @@ use Rattle.frames_c.specs.Calls.{saved_after}
 
 -- every field of the list is accepted, and they lead to the sheet
 abbrev Accepted : List (List ℕ) → Sheet → Sheet → Type 0
-Accepted fs s s' = (first_refusal (answers_to fs s) ≡ 0) × (sheet_after fs s ≡ s')
+Accepted fs s s' = (first_refusal (answers_to fs s) ≡ None) × (sheet_after fs s ≡ s')
 
 read_through : {w : List ℕ} {s s' : Sheet} → ReadThrough w s s' → (n : ℕ) → length w ≤ n → Accepted (fields_from n w) s s'
 unfolding fields_from answers_to sheet_after first_refusal
@@ -38,12 +39,12 @@ read_through {s = s} (field {b} {bs} e r) (suc n) h =
     let x = read_through r n l in
     (rw (e, ← c) x.0, rw (← c) x.1)
 
-pub saved_accepted : (s : Sheet) → InRange s → (due_state (saved_bytes s) ≡ 0) × (loaded (saved_bytes s) ≡ s)
+pub saved_accepted : (s : Sheet) → InRange s → (due_state (saved_bytes s) ≡ None) × (loaded (saved_bytes s) ≡ s)
 saved_accepted s h = read_through (round_trip s fresh_sheet h) (length (saved_bytes s)) (omega arith)
 
 -- whatever state and fields were given
 pub run_accepted : (state input : List ℕ) →
-    (due_state (saved_after state input) ≡ 0) × (loaded (saved_after state input) ≡ sheet_after (fields_of input) (loaded state))
+    (due_state (saved_after state input) ≡ None) × (loaded (saved_after state input) ≡ sheet_after (fields_of input) (loaded state))
 run_accepted state input =
     saved_accepted (sheet_after (fields_of input) (loaded state))
     (kept_after (fields_of input) (loaded state) (kept_after (fields_of state) fresh_sheet fresh_kept))

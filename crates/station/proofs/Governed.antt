@@ -17,6 +17,7 @@ use Rattle.standard.specs.Combination.{case_count}
 use Rattle.optimum.specs.Row.{acts_together}
 use Rattle.envelope.specs.declared.Best.{Best}
 use Rattle.envelope.specs.declared.Peak.{Peak}
+use Rattle.envelope.specs.declared.Sign.TheVariants.{Plus, Minus}
 use Rattle.envelope.specs.declared.Weights.{Weights}
 use Rattle.envelope.specs.Range.{kind_of, effect_of, effect_most, StationInRange, EffectsInRange, WeightsInRange, CapacitiesInRange}
 use Rattle.envelope.specs.Places.{Places}
@@ -57,7 +58,7 @@ governs s kind x best range small is =
 module _ {s : Settings} {kinds : List ℕ} {effects totals : List ℤ} {component : ℕ}
     (needs : StationInRange kinds effects × TotalsHeld totals kinds effects × (component < 3) × SettingsInRange s)
     {places : List ℕ} (placed : Places places (kind_of kinds))
-    {sums : List ℕ} (pass : ComponentPass sums (λ j. effect_of totals j component) places (λ k. effect_of effects k component)) where
+    {held : ℕ → ℕ → ℕ} (pass : ComponentPass held (λ j. effect_of totals j component) places (λ k. effect_of effects k component)) where
   abbrev kind : ℕ → ℕ
   kind = kind_of kinds
 
@@ -68,24 +69,24 @@ module _ {s : Settings} {kinds : List ℕ} {effects totals : List ℤ} {componen
   opposed k = neg_ℤ (effect k)
 
   -- the sums of the pass serve both
-  pub served : ServesBoth sums kind effect
+  pub served : ServesBoth held kind effect
   served = pass.serves kind (below needs.0) placed (needs.1.are.on component needs.2)
 
   small : (k : ℕ) → nat_abs (effect k) ≤ effect_most
   small k = omega (arith, needs.0.effects_range (k * 3 + component))
 
-  pub most_governs : {best : Best} → best ≡ toward_of s sums 0 1 → Governs s kind effect best
+  pub most_governs : {best : Best} → best ≡ toward_of s held Plus → Governs s kind effect best
   most_governs {best = best} e = governs s kind effect best needs.3 small (e ∙ (served.governs s).as_is)
 
-  pub least_governs : {best : Best} → best ≡ toward_of s sums 1 0 → Governs s kind opposed best
+  pub least_governs : {best : Best} → best ≡ toward_of s held Minus → Governs s kind opposed best
   least_governs {best = best} e =
       governs s kind opposed best needs.3 (λ k. omega (arith, abs_negated (effect k), small k)) (e ∙ (served.governs s).turned)
 
   -- whether the F cases act
-  pub raised_acts : {acts : Bool} → acts ≡ fluid_acts sums 0 1 → acts ≡ acts_together kind effect fluid
+  pub raised_acts : {acts : Bool} → acts ≡ fluid_acts held Plus → acts ≡ acts_together kind effect fluid
   raised_acts e = e ∙ served.tells_fluid.as_is
 
-  pub lowered_acts : {acts : Bool} → acts ≡ fluid_acts sums 1 0 → acts ≡ acts_together kind opposed fluid
+  pub lowered_acts : {acts : Bool} → acts ≡ fluid_acts held Minus → acts ≡ acts_together kind opposed fluid
   lowered_acts e = e ∙ served.tells_fluid.turned
 
 -- ---- the utilisation
@@ -96,12 +97,12 @@ module _ {s : Settings} {kinds : List ℕ} {effects totals : List ℤ} {p : Capa
   bests = pattern_best s (kind_of kinds) (effect_of effects) p
 
   -- the sums of the pass serve the eight patterns
-  pub patterns : ServesPatterns peak.s0 peak.s1 peak.s2 peak.s3 (kind_of kinds) (effect_of effects) p
+  pub patterns : ServesPatterns peak.held (kind_of kinds) (effect_of effects) p
   patterns = peak.pass.serves (kind_of kinds) (below needs.0) placed needs.1.are
 
   -- the pattern that governs, one of the eight
   pub peak_is : found.peak ≡ peak_of bests 7
-  peak_is = peak.peak ∙ peak_served peak.s0 peak.s1 peak.s2 peak.s3 (kind_of kinds) (effect_of effects) p patterns s
+  peak_is = peak.peak ∙ peak_served peak.held (kind_of kinds) (effect_of effects) p patterns s
 
   pattern_below : found.peak.pattern ≤ 7
   pattern_below = subst (λ (q : Peak). q.pattern ≤ 7) (sym peak_is) (peak_inside bests 7)
@@ -121,5 +122,5 @@ module _ {s : Settings} {kinds : List ℕ} {effects totals : List ℤ} {p : Capa
     -- whether the F cases act
     pub peak_acts : found.fluid ≡ acts_together (kind_of kinds) (weighed w (effect_of effects)) fluid
     peak_acts =
-        peak.fluid ∙ fluid_served peak.s0 peak.s1 peak.s2 peak.s3 (kind_of kinds) (effect_of effects) p patterns found.peak.pattern pattern_below
+        peak.fluid ∙ fluid_served peak.held (kind_of kinds) (effect_of effects) p patterns found.peak.pattern pattern_below
         ∙ ap (λ (v : Weights). acts_together (kind_of kinds) (weighed v (effect_of effects)) fluid) (sym weights)

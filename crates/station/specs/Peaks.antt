@@ -20,10 +20,7 @@ pub record PlacedWith (totals : List ℤ) (places : List ℕ) (effects : List �
   pub added : AllTotalsOf (effect_of totals) kind (effect_of effects)
 
 pub record PeakOf (q : Found) (s : Settings) (totals : ℕ → ℕ → ℤ) (places : List ℕ) (effect : ℕ → ℕ → ℤ) (p : Capacities) : Type 0 where
-  pub s0 : List ℕ
-  pub s1 : List ℕ
-  pub s2 : List ℕ
-  pub s3 : List ℕ
-  pub pass : PatternPass s0 s1 s2 s3 totals places effect p
-  pub peak : q.peak ≡ peak_of (eight_of s s0 s1 s2 s3) 7
-  pub fluid : q.fluid ≡ fluid_in s0 s1 s2 s3 q.peak.pattern
+  pub held : ℕ → ℕ → ℕ → ℕ
+  pub pass : PatternPass held totals places effect p
+  pub peak : q.peak ≡ peak_of (eight_of s held) 7
+  pub fluid : q.fluid ≡ fluid_in held q.peak.pattern

@@ -1,11 +1,12 @@
 -- SCOPE 4.6 and 4.7: what a look at a station promises, in the standard's words, beside the equation to `Envelope`: the combinations that
 -- its answer names are those of the rows and sets in it, and its numbers are those of one pass over the cases.
-use Rattle.std.specs.Prelude.{ℕ, ◌≡◌, List, ℤ, neg_ℤ, nat_abs}
+use Rattle.std.specs.Prelude.{ℕ, ◌≡◌, ℤ, neg_ℤ, nat_abs}
 use Rattle.standard.specs.declared.Settings.{Settings}
 use Rattle.standard.specs.declared.Capacities.{Capacities}
 use Rattle.standard.specs.Combination.{named}
 use Rattle.standard.specs.Governing.{Maximum, Minimum, Utilisation}
 use Rattle.envelope.specs.declared.Extremes.{Extremes}
+use Rattle.envelope.specs.declared.Sign.TheVariants.{Plus, Minus}
 use Rattle.envelope.specs.declared.Utilised.{Utilised}
 use Rattle.envelope.specs.Envelope.{peak_of}
 use Rattle.governing.specs.Ways.{toward_of, eight_of}
@@ -20,16 +21,13 @@ pub record UtilisationGoverns (s : Settings) (kind : ℕ → ℕ) (effect : ℕ 
 
 -- both numbers are read off the same sums, which serve both extremes (SCOPE 4.7)
 pub record ExtremesFromPass (s : Settings) (kind : ℕ → ℕ) (effect : ℕ → ℤ) (x : Extremes) : Type 0 where
-  pub sums : List ℕ
-  pub serve : ServesBoth sums kind effect
-  pub maximum : x.maximum.value ≡ (toward_of s sums 0 1).value
-  pub minimum : x.minimum.value ≡ neg_ℤ (toward_of s sums 1 0).value
+  pub held : ℕ → ℕ → ℕ
+  pub serve : ServesBoth held kind effect
+  pub maximum : x.maximum.value ≡ (toward_of s held Plus).value
+  pub minimum : x.minimum.value ≡ neg_ℤ (toward_of s held Minus).value
 
 -- the number is read off the sums of four directions, which serve the eight patterns of signs (SCOPE 4.7)
 pub record UtilisationFromPass (s : Settings) (kind : ℕ → ℕ) (effect : ℕ → ℕ → ℤ) (p : Capacities) (x : Utilised) : Type 0 where
-  pub s0 : List ℕ
-  pub s1 : List ℕ
-  pub s2 : List ℕ
-  pub s3 : List ℕ
-  pub serve : ServesPatterns s0 s1 s2 s3 kind effect p
-  pub numerator : x.numerator ≡ nat_abs (peak_of (eight_of s s0 s1 s2 s3) 7).best.value
+  pub held : ℕ → ℕ → ℕ → ℕ
+  pub serve : ServesPatterns held kind effect p
+  pub numerator : x.numerator ≡ nat_abs (peak_of (eight_of s held) 7).best.value

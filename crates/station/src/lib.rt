@@ -3,15 +3,16 @@
 ghost use Rattle.std.specs.Prelude.{◌≡◌, ◌<◌, ◌^◌};
 ghost use Rattle.standard.specs.Range.{SettingsInRange};
 ghost use Rattle.standard.specs.Combination.{case_count, denominator_of};
-ghost use Rattle.envelope.specs.Range.{kind_of, effect_of, StationInRange, EffectsInRange, TotalsInRange, CapacitiesInRange};
+ghost use Rattle.envelope.specs.Range.{kind_of, effect_of, StationInRange, TotalsInRange, CapacitiesInRange};
 ghost use Rattle.envelope.specs.Envelope.{extremes_of, utilised_of};
 ghost use Rattle.sums.specs.Sums.{TotalsHeld};
 ghost use Rattle.station.specs.Promises.{ExtremesGovern, ExtremesFromPass, UtilisationGoverns, UtilisationFromPass};
 ghost use Rattle.station.specs.Peaks.{PlacedWith, PeakOf};
 
-use envelope::{Extreme, Extremes, Peak, Utilised};
-use naming::Sets;
+use envelope::{CasesByKind, Extreme, Extremes, Peak, Sign, StationEffects, Utilised};
+use naming::{OnComponent, Sets, Weighed};
 use standard::{Capacities, Settings};
+use sums::Sums;
 
 // The pattern of signs that governs, and whether the F cases act in it.
 #[derive(Clone, Copy)]
@@ -25,6 +26,7 @@ fn extreme(value: i64, row: usize, sets: Sets) -> Extreme
     requires { (sets.acting < 2 ^ case_count) × (sets.low < 2 ^ case_count) }
     ensures { (result.value ≡ value) × (result.row ≡ row) × (result.acting ≡ sets.acting) × (result.low ≡ sets.low) }
 {
+    // Stays: `as`, proved to fit, since `try_from` gives a Result that is never an Err.
     let acting = sets.acting as u32;
     let low = sets.low as u32;
     Extreme {
@@ -47,14 +49,25 @@ pub fn extremes_of(
     ensures { (result ≡ extremes_of s (kind_of kinds.now) (λ k. effect_of effects.now k component)) × ExtremesGovern s (kind_of kinds.now) (λ k. effect_of effects.now k component) result × ExtremesFromPass s (kind_of kinds.now) (λ k. effect_of effects.now k component) result }
 {
     let places = sums::places_of(kinds);
+    let effects = StationEffects { all: effects };
     let sums = passes::component_pass(totals, &places, effects, component);
-    let most = governing::toward(s, &sums, 0, 1);
-    let least = governing::toward(s, &sums, 1, 0);
-    let raised = sums::fluid_acts(&sums, 0, 1);
-    let lowered = sums::fluid_acts(&sums, 1, 0);
-    let above = naming::sets_at(most.row, &places, effects, component, false, raised);
-    let below = naming::sets_at(least.row, &places, effects, component, true, lowered);
-    let value = integers::negated(least.value);
+    let most = governing::toward(s, &sums, Sign::Plus);
+    let least = governing::toward(s, &sums, Sign::Minus);
+    let raised = sums.fluid_acts(Sign::Plus);
+    let lowered = sums.fluid_acts(Sign::Minus);
+    let as_is = OnComponent {
+        effects,
+        component,
+        sign: Sign::Plus,
+    };
+    let turned = OnComponent {
+        effects,
+        component,
+        sign: Sign::Minus,
+    };
+    let above = naming::sets_of(most.row, &places, as_is, raised);
+    let below = naming::sets_of(least.row, &places, turned, lowered);
+    let value = -least.value;
     Extremes {
         maximum: extreme(most.value, most.row, above),
         minimum: extreme(value, least.row, below),
@@ -62,28 +75,29 @@ pub fn extremes_of(
 }
 
 // The pattern of signs with the greatest numerator, and whether the F cases act in it, from one pass over the cases.
-fn peak_of(s: Settings, totals: &[i64], places: &[u64], effects: &[i16], p: Capacities) -> Found
-    requires { TotalsInRange totals.now × PlacedWith totals.now places.now effects.now × EffectsInRange effects.now × CapacitiesInRange p × SettingsInRange s }
-    ensures { PeakOf result s (effect_of totals.now) places.now (effect_of effects.now) p }
+fn peak_of(
+    s: Settings,
+    totals: &[i64],
+    places: &CasesByKind,
+    effects: StationEffects<'_>,
+    p: Capacities,
+) -> Found
+    requires { TotalsInRange totals.now × PlacedWith totals.now places.now.sets effects.all.now × CapacitiesInRange p × SettingsInRange s }
+    ensures { PeakOf result s (effect_of totals.now) places.now.sets (effect_of effects.entry.all.now) p }
 {
-    let mut s0 = [0u64; sums::SUMS];
-    let mut s1 = [0u64; sums::SUMS];
-    let mut s2 = [0u64; sums::SUMS];
-    let mut s3 = [0u64; sums::SUMS];
-    passes::pattern_pass(
-        &mut s0, &mut s1, &mut s2, &mut s3, totals, places, effects, p,
-    );
-    let peak = governing::highest(s, &s0, &s1, &s2, &s3);
-    let fluid = directions::fluid_in(&s0, &s1, &s2, &s3, peak.pattern);
+    let mut sums = [Sums::new(); 4];
+    passes::pattern_pass(&mut sums, totals, places, effects, p);
+    let peak = governing::highest(s, &sums);
+    let fluid = directions::fluid_in(&sums, peak.pattern);
     Found { peak, fluid }
 }
 
 fn denominator_of(p: Capacities) -> u64
     ensures { result ≡ denominator_of p }
 {
-    let n = p.n as u64;
-    let y = p.y as u64;
-    let z = p.z as u64;
+    let n = u64::from(p.n);
+    let y = u64::from(p.y);
+    let z = u64::from(p.z);
     1000 * (n * y * z)
 }
 
@@ -99,13 +113,15 @@ pub fn utilisation_of(
     ensures { (result ≡ utilised_of s (kind_of kinds.now) (effect_of effects.now) p) × UtilisationGoverns s (kind_of kinds.now) (effect_of effects.now) p result × UtilisationFromPass s (kind_of kinds.now) (effect_of effects.now) p result }
 {
     let places = sums::places_of(kinds);
+    let effects = StationEffects { all: effects };
     let found = peak_of(s, totals, &places, effects, p);
     let q = found.peak;
     let best = q.best;
-    let w = passes::pattern_weights(p, q.pattern);
-    let sets = naming::sets_by(best.row, &places, effects, w, found.fluid);
+    let weights = passes::pattern_weights(p, q.pattern);
+    let weighed = Weighed { effects, weights };
+    let sets = naming::sets_of(best.row, &places, weighed, found.fluid);
     let x = extreme(best.value, best.row, sets);
-    let numerator = integers::magnitude(x.value);
+    let numerator = x.value.unsigned_abs();
     let denominator = denominator_of(p);
     Utilised {
         numerator,

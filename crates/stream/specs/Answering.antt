@@ -1,10 +1,8 @@
 -- Which of the fields at hand are answered now, and what becomes of the sheet, the places and the output.
-use Rattle.std.specs.Prelude.{ℕ, ◌+◌, ◌-◌, ◌≤◌, ◌≡◌, List, [], ◌∷◌, Bool, true, false, cond, not, ◌&&◌, ◌||◌, length, ltb, leb, ℤ}
+use Rattle.std.specs.Prelude.{ℕ, ◌+◌, ◌-◌, ◌≤◌, ◌≡◌, List, [], ◌∷◌, Bool, false, cond, ◌&&◌, ◌||◌, length, ltb, leb}
 use Rattle.std.proofs.lemmas.List.Edits.{sets}
 use Rattle.sheet.specs.declared.Sheet.{Sheet}
 use Rattle.sheet.specs.declared.Answer.{Answer}
-use Rattle.sheet.specs.declared.Rest.{Rest}
-use Rattle.sheet.specs.Parts.{whole}
 use Rattle.sheet.specs.Range.{InRange}
 use Rattle.fields.specs.Field.{read_field}
 use Rattle.answers.specs.Answers.{answer_bytes, last_of, answer_room}
@@ -17,10 +15,6 @@ use Rattle.stream.specs.declared.Progress.{Progress}
 unfoldable pub is_next : Bool → ℕ → List ℕ → Bool
 is_next ended room f = (ltb 0 (length f) && (ended || ready_of f)) && leb answer_room room
 
--- another may be answered after it: it is answered, and not with a 3 (SCOPE 9.4)
-unfoldable pub goes_on : Bool → ℕ → List ℕ → Sheet → Bool
-goes_on ended room f s = is_next ended room f && not (last_of (read_field f answer_room s).answer)
-
 -- of the fields at hand, those that are answered now; none after a 3 (SCOPE 9.4)
 unfoldable pub answered_of : Bool → ℕ → List (List ℕ) → Sheet → List (List ℕ)
 answered_of ended room [] s = []
@@ -28,26 +22,22 @@ answered_of ended room (f ∷ fs) s =
     cond (is_next ended room f)
     (f ∷ cond (last_of (read_field f answer_room s).answer) [] (answered_of ended (room - length (answer_bytes (read_field f answer_room s).answer)) fs (read_field f answer_room s).sheet)) []
 
--- the next of them, or none
-abbrev pub next_of : Bool → ℕ → List ℕ → List (List ℕ)
-next_of ended room f = cond (is_next ended room f) (f ∷ []) []
-
 -- one of the answers is a 3 (SCOPE 9.4)
 unfoldable pub any_last : List Answer → Bool
 any_last [] = false
 any_last (a ∷ rest) = last_of a || any_last rest
 
--- from p the fields fs are answered, one after the other: the sheet after them, the bytes consumed, and the output with their answers
--- after those that wait there
-pub record Progressed (fs : List (List ℕ)) (p : Progress) (effects sums : List ℤ) (o : List ℕ) (r : Progress) (effects' sums' : List ℤ) (o' : List ℕ) : Type 0 where
-  pub sheet : whole r.rest effects' sums' ≡ sheet_after fs (whole p.rest effects sums)
+-- from p on a sheet the fields fs are answered, one after the other: the sheet after them, the bytes consumed, and the output with their
+-- answers after those that wait there
+pub record Progressed (fs : List (List ℕ)) (p : Progress) (s : Sheet) (o : List ℕ) (r : Progress) (s' : Sheet) (o' : List ℕ) : Type 0 where
+  pub sheet : s' ≡ sheet_after fs s
   pub consumed : r.consumed ≡ p.consumed + span_of fs
-  pub written : r.written ≡ p.written + length (bytes_of (answers_to fs (whole p.rest effects sums)))
-  pub output : o' ≡ sets o p.written (bytes_of (answers_to fs (whole p.rest effects sums)))
-  pub stop : r.stop ≡ (p.stop || any_last (answers_to fs (whole p.rest effects sums)))
+  pub written : r.written ≡ p.written + length (bytes_of (answers_to fs s))
+  pub output : o' ≡ sets o p.written (bytes_of (answers_to fs s))
+  pub stop : r.stop ≡ (p.stop || any_last (answers_to fs s))
 
-abbrev pub begun : Rest → Progress
-begun rest = record { rest = rest; consumed = 0; written = 0; more = true; stop = false }
+abbrev pub begun : Progress
+begun = record { consumed = 0; written = 0; stop = false }
 
 -- what is kept meanwhile, of the sheet, the counts of bytes consumed and written, the input, and the output before and after; an answer
 -- has at most 37 bytes

@@ -2,16 +2,18 @@
 -- Assumes nothing.
 use Prim.Native.Nat.{ℕ, zero, suc, ◌+◌, ◌*◌, ◌<◌, ◌≤◌, ◌^◌, max}
 use native.Mathlib.Omega.{arith}
-use mathlib.Core.Bool.{Bool, true, false, false≢true}
+use mathlib.Core.Bool.{Bool, true, false, cond, false≢true}
 use mathlib.Core.Path.{◌≡◌, refl, sym, ap, ◌∙◌}
-use lib.IntN.{ℤ, pos, neg_ℤ, ◌+ℤ◌, nat_abs}
+use lib.IntN.{ℤ, pos, negsuc, neg_ℤ, ◌+ℤ◌, nat_abs}
+use Rattle.std.specs.Int.{int_max, int_min}
 use Rattle.integers.specs.Sums.{when, sum, most, up, down}
 use Rattle.integers.proofs.Signs.{eq_in, add_parts, abs_parts, abs_negated, neg_up, neg_down}
-use Rattle.integers.proofs.Sums.{when_le, sum_most, sum_le_at, most_le}
+use Rattle.integers.proofs.Sums.{ltb_cases, when_le, sum_le_at, most_le}
+use Rattle.integers.proofs.Sums as SumL
 use Rattle.standard.specs.Combination.{case_count}
 use Rattle.envelope.specs.Range.{effect_most}
 use Rattle.sums.specs.declared.Sides.{Sides}
-use Rattle.sums.specs.Sums.{part_of, joined_by, held_by, among, sides_by, split_of, sides_in, sides_with, SidesInRange, SidesRoom}
+use Rattle.sums.specs.Sums.{part_of, joined_by, held_by, among, sides_by, split_of, sides_in, sides_with, nothing, sum_most, SidesInRange, SidesAtMost, SidesRoom}
 
 -- ---- what is held
 held_none : (t : Bool) (g : ℕ → ℕ) → 0 ≡ held_by t 0 g
@@ -42,6 +44,25 @@ part_le (suc t) x = omega (arith, abs_parts x)
 down_back : (n : ℕ) → down (neg_ℤ (pos n)) ≡ n
 down_back n = neg_down (pos n)
 
+-- ---- the greatest above zero, and the least below
+pub greatest : (a b : ℤ) → a ≡ pos (up a) → int_max a b ≡ pos (max (up a) (up b))
+greatest (pos n) (pos m) e = ltb_cases m n (λ t. cond t (pos n) (pos m) ≡ pos (max n m)) (λ l. ap pos (omega arith)) (λ l. ap pos (omega arith))
+greatest (pos n) (negsuc m) e = ap pos (omega arith)
+greatest (negsuc n) b e = absurd (omega (arith, ap down e))
+
+below : (a b : ℕ) → a ≡ b → neg_ℤ (pos a) ≡ neg_ℤ (pos b)
+below a b e = ap (λ (n : ℕ). neg_ℤ (pos n)) e
+
+pub least : (a b : ℤ) → a ≡ neg_ℤ (pos (down a)) → int_min a b ≡ neg_ℤ (pos (max (down a) (down b)))
+least (pos n) (pos m) e =
+    let z : n ≡ 0 = ap up e in
+    ltb_cases m n (λ t. cond t (pos m) (pos n) ≡ pos 0) (λ l. absurd (omega arith)) (λ l. ap pos z)
+least (pos n) (negsuc m) e = below (suc m) (max 0 (suc m)) (omega arith)
+least (negsuc n) (pos m) e = below (suc n) (max (suc n) 0) (omega arith)
+least (negsuc n) (negsuc m) e =
+    ltb_cases n m (λ t. cond t (negsuc m) (negsuc n) ≡ neg_ℤ (pos (max (suc n) (suc m)))) (λ l. below (suc m) (max (suc n) (suc m)) (omega arith))
+    (λ l. below (suc n) (max (suc n) (suc m)) (omega arith))
+
 -- ---- a total
 pub split_in_range : (total : ℤ) → nat_abs total < 2 ^ 63 → SidesInRange (split_of total)
 split_in_range total l =
@@ -50,6 +71,13 @@ split_in_range total l =
       below = ap (λ (m : ℕ). neg_ℤ (pos m)) (sym (down_back (down total)));
       above_fits = omega (arith, abs_parts total);
       below_fits = omega (arith, abs_parts total, abs_negated (pos (down total)));
+    }
+
+pub split_at_most : (total : ℤ) (m : ℕ) → nat_abs total ≤ m → SidesAtMost (split_of total) m
+split_at_most total m l =
+    record {
+      above = omega (arith, abs_parts total);
+      below = omega (arith, abs_parts total, abs_negated (pos (down total)));
     }
 
 -- ---- one case more
@@ -75,7 +103,7 @@ module _ (s : Sides) (x a b : ℤ) (h : SidesInRange s) where
 
 -- ---- the members
 module _ (t : Bool) (p : ℕ → Bool) (e : ℕ → ℤ) where
-  pub no_sides : record { above = pos 0; below = pos 0 } ≡ sides_in t p e 0
+  pub no_sides : nothing ≡ sides_in t p e 0
   no_sides = λ i. sides_by (held_none t (among p (λ k. up (e k))) i) (held_none t (among p (λ k. down (e k))) i)
 
   held_skips : (g : ℕ → ℕ) (k : ℕ) → p k ≡ false → held_by t (suc k) (among p g) ≡ held_by t k (among p g)
@@ -99,7 +127,7 @@ module _ (t : Bool) (p : ℕ → Bool) (e : ℕ → ℤ) where
         omega (
           arith,
           held_le t n (among p (λ k. part_of s (e k))),
-          sum_most n effect_most (among p (λ k. part_of s (e k))) (λ k l. omega (arith, when_le (p k) (part_of s (e k)), part_le s (e k), small k)),
+          SumL.sum_most n effect_most (among p (λ k. part_of s (e k))) (λ k l. omega (arith, when_le (p k) (part_of s (e k)), part_le s (e k), small k)),
         )
 
     pub sides_in_range : (n : ℕ) → n ≤ case_count → SidesInRange (sides_in t p e n)
@@ -110,6 +138,13 @@ module _ (t : Bool) (p : ℕ → Bool) (e : ℕ → ℤ) where
           below = ap (λ (m : ℕ). neg_ℤ (pos m)) (sym (down_back d));
           above_fits = omega (arith, held_most 0 n);
           below_fits = omega (arith, abs_negated (pos d), held_most 1 n);
+        }
+
+    pub sides_at_most : SidesAtMost (sides_in t p e case_count) sum_most
+    sides_at_most =
+        record {
+          above = omega (arith, held_most 0 case_count);
+          below = omega (arith, abs_negated (pos (held_by t case_count (among p (λ k. down (e k))))), held_most 1 case_count);
         }
 
     pub sides_room : (k : ℕ) → k < case_count → SidesRoom (sides_in t p e k) (e k)

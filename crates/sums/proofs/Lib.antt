@@ -1,3 +1,4 @@
-pub mod Held
+pub mod Arrays
 pub mod Gathered
+pub mod Held
 pub mod Totals

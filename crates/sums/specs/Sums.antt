@@ -1,6 +1,6 @@
 -- What one pass over the cases holds of each kind, for the effects and for the effects negated alike. Nothing here needs to be
 -- believed.
-use Rattle.std.specs.Prelude.{ℕ, zero, suc, ◌+◌, ◌*◌, ◌<◌, ◌≤◌, ◌^◌, max, Bool, true, false, cond, List, ◌≡◌, eqb, ltb, ℤ, pos, neg_ℤ, nat_abs, length, get_or, set}
+use Rattle.std.specs.Prelude.{ℕ, zero, suc, ◌+◌, ◌*◌, ◌<◌, ◌≤◌, ◌^◌, max, Bool, true, false, cond, List, [], ◌≡◌, eqb, ltb, ℤ, pos, neg_ℤ, nat_abs, length, get_or}
 use Rattle.integers.specs.Sums.{when, sum, most, up, down}
 use Rattle.integers.specs.Sets.{has}
 use Rattle.standard.specs.declared.Class.{Class}
@@ -8,7 +8,9 @@ use Rattle.standard.specs.declared.Class.TheVariants.{Always, Together, Subset, 
 use Rattle.standard.specs.Kinds.{class_of, kind_count, fluid}
 use Rattle.standard.specs.Combination.{case_count}
 use Rattle.optimum.specs.Row.{total_of}
+use Rattle.envelope.specs.declared.Sign.{Sign}
 use Rattle.envelope.specs.Range.{kind_of, effect_of, component_count, effect_most}
+use Rattle.envelope.specs.Signs.{over, under}
 use Rattle.sums.specs.declared.Sides.{Sides}
 
 -- the parts of an effect: 0 above zero, 1 below
@@ -57,6 +59,10 @@ split_of total = sides_by (up total) (down total)
 abbrev pub total_count : ℕ
 total_count = 2
 
+-- where no case acts
+abbrev pub nothing : Sides
+nothing = sides_by 0 0
+
 -- one case more
 abbrev pub sides_with : Bool → Sides → ℤ → Sides
 sides_with compared s x = sides_by (joined_by compared (up s.above) (up x)) (joined_by compared (down s.below) (down x))
@@ -73,37 +79,43 @@ pub record SidesRoom (s : Sides) (x : ℤ) : Type 0 where
   pub above : nat_abs s.above + nat_abs x < 2 ^ 63
   pub below : nat_abs s.below + nat_abs x < 2 ^ 63
 
--- two sums of each kind
-abbrev pub sum_count : ℕ
-sum_count = kind_count * 2
+-- the greatest sum: every case counts once
+abbrev pub sum_most : ℕ
+sum_most = case_count * effect_most
+
+-- neither is above a bound
+pub record SidesAtMost (s : Sides) (m : ℕ) : Type 0 where
+  pub above : nat_abs s.above ≤ m
+  pub below : nat_abs s.below ≤ m
 
 -- of kind j on side t
-abbrev pub held_at : List ℕ → ℕ → ℕ → ℕ
-held_at sums j t = get_or sums (j * 2 + t) 0
+abbrev pub held_at : List (List ℕ) → ℕ → ℕ → ℕ
+held_at sums j t = get_or (get_or sums j []) t 0
 
--- whether what the F cases make on a side is more than on the other
-abbrev pub fluid_acts : List ℕ → (over under : ℕ) → Bool
-fluid_acts sums over under = ltb (held_at sums fluid under) (held_at sums fluid over)
+-- sums of the weighed effects of all cases
+pub record SumsInRange (sums : List (List ℕ)) : Type 0 where
+  pub each : (j t : ℕ) → 0 < j → j < kind_count → t < 2 → held_at sums j t ≤ sum_most
 
-abbrev pub sides_put : List ℕ → ℕ → Sides → List ℕ
-sides_put sums j s = set (set sums (j * 2) (up s.above)) (j * 2 + 1) (down s.below)
+-- the sides of kind j are put in place of what was held of it
+pub record KindPut (before after : ℕ → ℕ → ℕ) (j : ℕ) (s : Sides) : Type 0 where
+  pub above : after j 0 ≡ up s.above
+  pub below : after j 1 ≡ down s.below
+  pub others : (i t : ℕ) → (i ≡ j → ⊥) → after i t ≡ before i t
 
--- the sides of the totals of D and F
-abbrev pub totals_put : List ℕ → (ℕ → ℤ) → List ℕ
-totals_put sums totals = sides_put (sides_put sums 1 (split_of (totals 0))) fluid (split_of (totals 1))
+-- whether what the F cases make on the side of a sign is more than on the other
+abbrev pub fluid_acts : (ℕ → ℕ → ℕ) → Sign → Bool
+fluid_acts held sign = ltb (held fluid (under sign)) (held fluid (over sign))
 
 -- The sums of the kinds below m. Of D and F the sides of a total are held, since all their cases act or none; the total is given. Of the
 -- others the sums come from the sets of the cases of each kind.
-pub record SumsOf (sums : List ℕ) (totals : ℕ → ℤ) (places : List ℕ) (e : ℕ → ℤ) (m : ℕ) : Type 0 where
-  pub long : length sums ≡ sum_count
-  pub total : (j t : ℕ) → j < total_count → t < 2 → held_at sums (suc j) t ≡ part_of t (totals j)
-  pub held : (j t : ℕ) → total_count < j → j < m → t < 2 → held_at sums j t ≡ held_of j case_count (among (has (get_or places j 0)) (λ k. part_of t (e k)))
+pub record SumsOf (held : ℕ → ℕ → ℕ) (totals : ℕ → ℤ) (places : List ℕ) (e : ℕ → ℤ) (m : ℕ) : Type 0 where
+  pub total : (j t : ℕ) → j < total_count → t < 2 → held (suc j) t ≡ part_of t (totals j)
+  pub others : (j t : ℕ) → total_count < j → j < m → t < 2 → held j t ≡ held_of j case_count (among (has (get_or places j 0)) (λ k. part_of t (e k)))
 
 -- the same from the kinds of the cases
-pub record Summed (sums : List ℕ) (kind : ℕ → ℕ) (e : ℕ → ℤ) : Type 0 where
-  pub long : length sums ≡ sum_count
-  pub total : (j t : ℕ) → j < total_count → t < 2 → held_at sums (suc j) t ≡ part_of t (total_of kind e (suc j))
-  pub held : (j t : ℕ) → total_count < j → j < kind_count → t < 2 → held_at sums j t ≡ held_of j case_count (of_kind kind (λ k. part_of t (e k)) j)
+pub record Summed (held : ℕ → ℕ → ℕ) (kind : ℕ → ℕ) (e : ℕ → ℤ) : Type 0 where
+  pub total : (j t : ℕ) → j < total_count → t < 2 → held (suc j) t ≡ part_of t (total_of kind e (suc j))
+  pub others : (j t : ℕ) → total_count < j → j < kind_count → t < 2 → held j t ≡ held_of j case_count (of_kind kind (λ k. part_of t (e k)) j)
 
 -- the totals that are held are those of the cases
 pub record TotalsOf (totals : ℕ → ℤ) (kind : ℕ → ℕ) (e : ℕ → ℤ) : Type 0 where
@@ -118,7 +130,10 @@ pub record TotalsHeld (totals : List ℤ) (kinds : List ℕ) (effects : List ℤ
   pub long : length totals ≡ total_count * component_count
   pub are : AllTotalsOf (effect_of totals) (kind_of kinds) (effect_of effects)
 
--- sums of the weighed effects of all cases
-pub record SumsInRange (sums : List ℕ) : Type 0 where
-  pub long : length sums ≡ sum_count
-  pub each : (j t : ℕ) → 0 < j → j < kind_count → t < 2 → held_at sums j t ≤ case_count * effect_most
+-- the totals of D and F, each in some directions: of the one at j in direction d
+abbrev pub total_in : List (List ℤ) → ℕ → ℕ → ℤ
+total_in totals d j = get_or (get_or totals j []) d (pos 0)
+
+-- each is a total of weighed effects
+pub record TotalsFit (totals : List (List ℤ)) : Type 0 where
+  pub each : (d j : ℕ) → nat_abs (total_in totals d j) ≤ sum_most

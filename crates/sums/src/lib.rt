@@ -1,19 +1,21 @@
 #![tactic(auto)]
 
-ghost use Rattle.std.specs.Prelude.{◌≡◌, ◌<◌, ◌^◌, length, nat_abs};
+ghost use Rattle.std.specs.Prelude.{◌≡◌, ℕ, ◌*◌, ◌<◌, ◌≤◌, ◌^◌, ℤ, ◌+ℤ◌, pos, neg_ℤ, nat_abs, get_or};
 ghost use Rattle.integers.specs.Sets.{has};
 ghost use Rattle.standard.specs.Combination.{case_count};
 ghost use Rattle.standard.specs.Kinds.{class_of, kind_count};
-ghost use Rattle.envelope.specs.Range.{kind_of, effect_of, KindsInRange, EffectsInRange, TotalsInRange};
-ghost use Rattle.envelope.specs.Places.{Places, PlacesInRange};
-ghost use Rattle.sums.specs.Sums.{alone, split_of, totals_put, sides_with, SidesRoom, SidesInRange, sides_in, sides_put, sum_count, SumsOf, fluid_acts};
+ghost use Rattle.envelope.specs.Range.{kind_of, effect_of, effect_most, KindsInRange};
+ghost use Rattle.envelope.specs.Places.{Places};
+ghost use Rattle.envelope.specs.Signs.{over, under};
+ghost use Rattle.sums.specs.Sums.{alone, split_of, sides_in, sides_with, nothing, SidesRoom, SidesInRange, SidesAtMost, sum_most, held_at, SumsInRange, KindPut, SumsOf, fluid_acts, total_in, TotalsFit};
+ghost use Rattle.sums.specs.Directions.{held_in};
 
-use standard::{CASES, KINDS};
+mod by_kind;
 
-// Two sums of each kind: above zero, and below.
-pub const SUMS: usize = KINDS * 2;
-
-pub type Sums = [u64; SUMS];
+pub use by_kind::Sums;
+use envelope::{CasesByKind, StationEffects};
+use integers::Members;
+use standard::KINDS;
 
 // The kinds D and F.
 pub const DEAD: usize = 1;
@@ -27,24 +29,72 @@ pub struct Sides {
     pub below: i64,
 }
 
+impl Sides {
+    // Where no case acts.
+    pub fn nothing() -> Self
+        ensures { result ≡ nothing }
+    {
+        Sides { above: 0, below: 0 }
+    }
+
+    // The sides of a total.
+    pub fn of(total: i64) -> Self
+        requires { nat_abs total < 2 ^ 63 }
+        ensures { result ≡ split_of total }
+    {
+        let above = total.max(0);
+        Sides {
+            above,
+            below: total - above,
+        }
+    }
+
+    // One case more.
+    // Stays: a bool, the answer of `acts_alone`, in the inner loop of the pass.
+    pub fn with(self, compared: bool, x: i64) -> Self
+        requires { SidesRoom self x }
+        ensures { result ≡ sides_with compared self x }
+    {
+        if compared {
+            return Sides {
+                above: self.above.max(x),
+                below: self.below.min(x),
+            };
+        }
+        let case = Sides::of(x);
+        Sides {
+            above: self.above + case.above,
+            below: self.below + case.below,
+        }
+    }
+}
+
+// How a pass reads the three effects of a case: as a number in each of N directions.
+pub trait Reading<const N: usize>: Copy {
+    // of the cases' effects on the components, in a direction
+    ghost along: { Self → (ℕ → ℕ → ℤ) → ℕ → ℕ → ℤ };
+
+    fn of_case(self, effects: StationEffects<'_>, case: usize) -> [i64; N]
+        requires { case < case_count }
+        ensures { (d : ℕ) → d < N → get_or result d (pos 0) ≡ along self (effect_of effects.entry.all.now) d case };
+}
+
 // The cases of each kind as sets.
-pub fn places_of(kinds: &[u8]) -> [u64; KINDS]
+pub fn places_of(kinds: &[u8]) -> CasesByKind
     requires { KindsInRange kinds.now }
-    ensures { Places result (kind_of kinds.now) }
+    ensures { Places result.sets (kind_of kinds.now) }
 {
-    let mut places = [0u64; KINDS];
+    let mut sets = [0u64; KINDS];
     let mut bit: u64 = 1;
-    let mut k: usize = 0;
-    while k < CASES {
-        let kind = kinds[k] as usize;
+    for kind in kinds {
+        let kind = usize::from(*kind);
         let placed = 0 < kind;
         if placed {
-            places[kind] += bit;
+            sets[kind] += bit;
         }
-        bit = bit * 2;
-        k += 1;
+        bit *= 2;
     }
-    places
+    CasesByKind { sets }
 }
 
 // Whether at most one case of the kind acts, so that its cases are compared; others are added up. One test of the number, since
@@ -52,98 +102,79 @@ pub fn places_of(kinds: &[u8]) -> [u64; KINDS]
 pub fn acts_alone(kind: usize) -> bool
     ensures { result ≡ alone (class_of kind) }
 {
-    match kind {
-        6..=13 => true,
-        _ => false,
+    matches!(kind, 6..=13)
+}
+
+// One case more in each direction.
+fn with_case<const N: usize>(sides: [Sides; N], compared: bool, effects: [i64; N]) -> [Sides; N]
+    requires { (d : ℕ) → d < N → SidesRoom (get_or sides d nothing) (get_or effects d (pos 0)) }
+    ensures { (d : ℕ) → d < N → get_or result d nothing ≡ sides_with compared (get_or sides.entry d nothing) (get_or effects.entry d (pos 0)) }
+{
+    let mut joined = sides;
+    for d in 0..N {
+        joined[d] = joined[d].with(compared, effects[d]);
+    }
+    joined
+}
+
+// What the cases of a set make in each direction.
+fn sides_of<const N: usize, R: Reading<N>>(
+    reading: R,
+    compared: bool,
+    set: u64,
+    effects: StationEffects<'_>,
+) -> [Sides; N]
+    requires cases { set < 2 ^ case_count }
+    requires fits { N * 16 < 2 ^ 63 }
+    requires small { (d k : ℕ) → nat_abs (R.along reading (effect_of effects.all.now) d k) ≤ effect_most }
+    ensures { (d : ℕ) → d < N → get_or result d nothing ≡ sides_in compared (has set) (R.along reading (effect_of effects.entry.all.now) d) case_count }
+{
+    let mut sides = [Sides::nothing(); N];
+    for k in Members(set) {
+        sides = with_case(sides, compared, reading.of_case(effects, k));
+    }
+    sides
+}
+
+// The sides of a total in each direction.
+fn split<const N: usize>(totals: [i64; N]) -> [Sides; N]
+    requires { (d : ℕ) → nat_abs (get_or totals d (pos 0)) ≤ sum_most }
+    ensures { (d : ℕ) → d < N → get_or result d nothing ≡ split_of (get_or totals.entry d (pos 0)) }
+{
+    let mut sides = [Sides::nothing(); N];
+    for d in 0..N {
+        sides[d] = Sides::of(totals[d]);
+    }
+    sides
+}
+
+// The sides of a kind in the sums of each direction.
+fn put_all<const N: usize>(sums: &mut [Sums; N], kind: usize, sides: [Sides; N])
+    requires { (kind < kind_count) × ((d : ℕ) → d < N → SidesInRange (get_or sides d nothing) × SidesAtMost (get_or sides d nothing) sum_most) }
+    ensures { (d : ℕ) → d < N → KindPut (held_in sums.old d) (held_in sums.new d) kind (get_or sides.entry d nothing) }
+{
+    for d in 0..N {
+        sums[d].put(kind, sides[d]);
     }
 }
 
-// One case more.
-pub fn with_effect(compared: bool, s: Sides, x: i64) -> Sides
-    requires { SidesRoom s x }
-    ensures { result ≡ sides_with compared s x }
+// The sums of each kind in N directions, for both signs of each: from the totals of D and F, and from one pass over the cases of the
+// others. The sums are lent, since an array that is handed back is copied.
+pub fn sum_up<const N: usize, R: Reading<N>>(
+    sums: &mut [Sums; N],
+    totals: [[i64; N]; 2],
+    places: &CasesByKind,
+    effects: StationEffects<'_>,
+    reading: R,
+)
+    requires totals { TotalsFit totals }
+    requires small { (d k : ℕ) → nat_abs (R.along reading (effect_of effects.all.now) d k) ≤ effect_most }
+    ensures { (d : ℕ) → d < N → SumsOf (held_in sums.new d) (total_in totals.entry d) places.now.sets (R.along reading (effect_of effects.entry.all.now) d) kind_count }
 {
-    if compared {
-        let above = integers::greater(s.above, x);
-        let below = integers::lesser(s.below, x);
-        return Sides { above, below };
+    put_all(sums, DEAD, split(totals[0]));
+    put_all(sums, FLUID, split(totals[1]));
+    for kind in FLUID + 1..KINDS {
+        let sides = sides_of(reading, acts_alone(kind), places.of(kind), effects);
+        put_all(sums, kind, sides);
     }
-    let above = integers::added(s.above, integers::above_zero(x));
-    let below = integers::added(s.below, integers::below_zero(x));
-    Sides { above, below }
-}
-
-// What the cases of a set make on a component.
-fn sides_of(compared: bool, set: u64, effects: &[i16], component: usize) -> Sides
-    requires { (set < 2 ^ case_count) × EffectsInRange effects.now × (component < 3) }
-    ensures { result ≡ sides_in compared (has set) (λ k. effect_of effects.now k component) case_count }
-{
-    let mut s = Sides { above: 0, below: 0 };
-    let mut rest = set;
-    while 0 < rest {
-        let k = integers::lowest(rest);
-        let at = k * 3 + component;
-        let x = integers::widen(effects[at]);
-        s = with_effect(compared, s, x);
-        rest = integers::without_lowest(rest);
-    }
-    s
-}
-
-// A kind's two places in the sums, which have no signs.
-pub fn put_sides(sums: &mut [u64], kind: usize, x: Sides)
-    requires { (length sums.old ≡ sum_count) × (kind < kind_count) × SidesInRange x }
-    ensures { sums.new ≡ sides_put sums.old kind x }
-{
-    let at = kind * 2;
-    sums[at] = integers::unsigned(x.above);
-    sums[at + 1] = integers::unsigned(integers::negated(x.below));
-}
-
-// The sides of a total.
-pub fn split(total: i64) -> Sides
-    requires { nat_abs total < 2 ^ 63 }
-    ensures { result ≡ split_of total }
-{
-    let above = integers::above_zero(total);
-    let below = integers::below_zero(total);
-    Sides { above, below }
-}
-
-// The totals of D and F on a component.
-fn put_totals(sums: &mut [u64], totals: &[i64], component: usize)
-    requires { (length sums.old ≡ sum_count) × TotalsInRange totals.now × (component < 3) }
-    ensures { sums.new ≡ totals_put sums.old (λ j. effect_of totals.now j component) }
-{
-    let second = 3 + component;
-    let dead = split(totals[component]);
-    let fluid = split(totals[second]);
-    put_sides(sums, DEAD, dead);
-    put_sides(sums, FLUID, fluid);
-}
-
-// The sums of each kind on a component, for both signs: from the totals of D and F, and from one pass over the cases of the others.
-pub fn sums_of(totals: &[i64], places: &[u64], effects: &[i16], component: usize) -> Sums
-    requires { TotalsInRange totals.now × PlacesInRange places.now × EffectsInRange effects.now × (component < 3) }
-    ensures { SumsOf result (λ j. effect_of totals.now j component) places.now (λ k. effect_of effects.now k component) kind_count }
-{
-    let mut sums = [0u64; SUMS];
-    put_totals(&mut sums, totals, component);
-    let mut kind: usize = FLUID + 1;
-    while kind < KINDS {
-        let x = sides_of(acts_alone(kind), places[kind], effects, component);
-        put_sides(&mut sums, kind, x);
-        kind += 1;
-    }
-    sums
-}
-
-// Whether the F cases act: their total is above zero, for the effects as they are at 0 over 1, negated at 1 over 0.
-pub fn fluid_acts(sums: &[u64], over: usize, under: usize) -> bool
-    requires { (length sums.now ≡ sum_count) × (over < 2) × (under < 2) }
-    ensures { result ≡ fluid_acts sums.now over under }
-{
-    let plus = FLUID * 2 + over;
-    let minus = FLUID * 2 + under;
-    sums[minus] < sums[plus]
 }

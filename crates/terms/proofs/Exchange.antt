@@ -5,7 +5,6 @@ use native.Mathlib.Nat.{mul-le-mul_left, le_antisymm, le_trans}
 use native.Mathlib.Omega.{arith}
 use mathlib.Core.Path.{◌≡◌, refl, sym, ap, ◌∙◌, subst}
 use mathlib.Core.Bool.{Bool, true, false, false≢true}
-use mathlib.Core.List.{List}
 use borrow.Author.Tests.{ne_eqb, lt-ltb, le-ltb}
 use lib.Dec.{eqb, ltb}
 use lib.IntN.{ℤ, pos, neg_ℤ, ◌+ℤ◌, ◌-ℤ◌, nat_abs}
@@ -20,11 +19,13 @@ use Rattle.standard.specs.Kinds.{class_of, kind_count, group_count, fluid}
 use Rattle.standard.specs.Rows.{factor_of}
 use Rattle.standard.specs.Combination.{case_count}
 use Rattle.optimum.specs.Row.{greatest_by, least_by, group_by, is_together, lower_of, greatest_of, least_of, group_of, joint_of, total_of, acts_together, gain_of, row_maximum, worth_of}
+use Rattle.envelope.specs.declared.Sign.{Sign}
+use Rattle.envelope.specs.declared.Sign.TheVariants.{Plus, Minus}
 use Rattle.envelope.specs.Range.{effect_most}
-use Rattle.sums.specs.Sums.{part_of, of_kind, alone, held_by, held_of, held_at, total_count, fluid_acts, Summed}
+use Rattle.sums.specs.Sums.{part_of, of_kind, alone, held_by, held_of, total_count, fluid_acts, Summed}
 use Rattle.terms.specs.Value.{terms_by, terms_of, TermsInRange, value_of}
 use Rattle.terms.proofs.Lines.{by_group, excess, gain_by, loss_by, by_terms}
-use Rattle.sums.proofs.Held.{held_le, part_le}
+use Rattle.sums.proofs.Held.{held_le, held_most, part_le}
 use Rattle.sums.proofs.Totals.{total_negated}
 
 module _ (n K : ℕ) (kind p : ℕ → ℕ) (below : (k : ℕ) → kind k < K) where
@@ -267,36 +268,36 @@ module _ (kind : ℕ → ℕ) (e : ℕ → ℤ) (below : (k : ℕ) → kind k < 
   fluid_from : ltb (d fluid) (u fluid) ≡ acts_together kind e fluid
   fluid_from = less_excess (u fluid) (d fluid) ∙ ap (λ (z : ℤ). ltb 0 (up z)) (h.total 1 (omega arith))
 
-module _ (sums : List ℕ) (kind : ℕ → ℕ) (e : ℕ → ℤ) (below : (k : ℕ) → kind k < kind_count) (h : Summed sums kind e) where
+module _ (held : ℕ → ℕ → ℕ) (kind : ℕ → ℕ) (e : ℕ → ℤ) (below : (k : ℕ) → kind k < kind_count) (h : Summed held kind e) where
   -- as they are
-  from_sums : TermsFrom kind e (λ j. held_at sums j 0) (λ j. held_at sums j 1)
+  from_sums : TermsFrom kind e (λ j. held j 0) (λ j. held j 1)
   from_sums = record {
     total = λ j l. (λ i. pos (h.total j 0 l (omega arith) i) +ℤ neg_ℤ (pos (h.total j 1 l (omega arith) i))) ∙ of_parts (total_of kind e (suc j));
-    others = λ j p l. (h.held j 0 p l (omega arith), h.held j 1 p l (omega arith));
+    others = λ j p l. (h.others j 0 p l (omega arith), h.others j 1 p l (omega arith));
   }
 
   -- and negated: what is above zero of the one is below zero of the other
-  from_negated : TermsFrom kind (λ k. neg_ℤ (e k)) (λ j. held_at sums j 1) (λ j. held_at sums j 0)
+  from_negated : TermsFrom kind (λ k. neg_ℤ (e k)) (λ j. held j 1) (λ j. held j 0)
   from_negated = record {
     total = λ j l. (λ i. pos (h.total j 1 l (omega arith) i) +ℤ neg_ℤ (pos (h.total j 0 l (omega arith) i)))
         ∙ of_parts_negated (total_of kind e (suc j)) ∙ sym (total_negated kind (suc j) e);
     others = λ j p l. (
-      h.held j 1 p l (omega arith) ∙ ap (λ (f : ℕ → ℕ). held_of j case_count (of_kind kind f j)) (λ i k. sym (neg_up (e k)) i),
-      h.held j 0 p l (omega arith) ∙ ap (λ (f : ℕ → ℕ). held_of j case_count (of_kind kind f j)) (λ i k. sym (neg_down (e k)) i),
+      h.others j 1 p l (omega arith) ∙ ap (λ (f : ℕ → ℕ). held_of j case_count (of_kind kind f j)) (λ i k. sym (neg_up (e k)) i),
+      h.others j 0 p l (omega arith) ∙ ap (λ (f : ℕ → ℕ). held_of j case_count (of_kind kind f j)) (λ i k. sym (neg_down (e k)) i),
     );
   }
 
-  pub value_is : (s : Settings) (row : ℕ) → value_of s row (terms_of sums 0 1) ≡ row_maximum s row kind e
-  value_is = value_from kind e below (λ j. held_at sums j 0) (λ j. held_at sums j 1) from_sums
+  pub value_is : (s : Settings) (row : ℕ) → value_of s row (terms_of held Plus) ≡ row_maximum s row kind e
+  value_is = value_from kind e below (λ j. held j 0) (λ j. held j 1) from_sums
 
-  pub negated_value_is : (s : Settings) (row : ℕ) → value_of s row (terms_of sums 1 0) ≡ row_maximum s row kind (λ k. neg_ℤ (e k))
-  negated_value_is = value_from kind (λ k. neg_ℤ (e k)) below (λ j. held_at sums j 1) (λ j. held_at sums j 0) from_negated
+  pub negated_value_is : (s : Settings) (row : ℕ) → value_of s row (terms_of held Minus) ≡ row_maximum s row kind (λ k. neg_ℤ (e k))
+  negated_value_is = value_from kind (λ k. neg_ℤ (e k)) below (λ j. held j 1) (λ j. held j 0) from_negated
 
-  pub fluid_is : fluid_acts sums 0 1 ≡ acts_together kind e fluid
-  fluid_is = fluid_from kind e below (λ j. held_at sums j 0) (λ j. held_at sums j 1) from_sums
+  pub fluid_is : fluid_acts held Plus ≡ acts_together kind e fluid
+  fluid_is = fluid_from kind e below (λ j. held j 0) (λ j. held j 1) from_sums
 
-  pub negated_fluid_is : fluid_acts sums 1 0 ≡ acts_together kind (λ k. neg_ℤ (e k)) fluid
-  negated_fluid_is = fluid_from kind (λ k. neg_ℤ (e k)) below (λ j. held_at sums j 1) (λ j. held_at sums j 0) from_negated
+  pub negated_fluid_is : fluid_acts held Minus ≡ acts_together kind (λ k. neg_ℤ (e k)) fluid
+  negated_fluid_is = fluid_from kind (λ k. neg_ℤ (e k)) below (λ j. held j 1) (λ j. held j 0) from_negated
 
 -- ---- the sizes of the terms
 total : (H : ℕ → ℕ) (m : ℕ) → sum kind_count H ≤ m → H 1 + H 2 + H 3 + H 4 + H 5 + H 6 + H 7 + H 8 + H 9 + H 10 + H 11 + H 12 + H 13 + H 14 ≤ m
@@ -353,18 +354,22 @@ unfolding total_of
 total_within kind e j zero = omega (arith, where_parts case_count (λ k. eqb (kind k) j) e, one_part (total_of kind e j), counted kind j (λ k. up (e k)), counted kind j (λ k. down (e k)))
 total_within kind e j (suc t) = omega (arith, where_parts case_count (λ k. eqb (kind k) j) e, one_part (total_of kind e j), counted kind j (λ k. up (e k)), counted kind j (λ k. down (e k)))
 
-pub terms_in_range : (sums : List ℕ) (kind : ℕ → ℕ) (e : ℕ → ℤ) → ((k : ℕ) → kind k < kind_count) → Summed sums kind e → ((k : ℕ) → nat_abs (e k) ≤ effect_most) →
-    (over under : ℕ) → over < 2 → under < 2 → TermsInRange (terms_of sums over under)
-unfolding held_by
-terms_in_range sums kind e below h small over under a b =
-    small_terms (λ j. held_at sums j over) (λ j. held_at sums j under) (case_count * effect_most) (side over a) (side under b) (omega arith)
-  where
-    within : (t : ℕ) → t < 2 → (j : ℕ) → 0 < j → j < kind_count → held_at sums j t ≤ held_of j case_count (of_kind kind (λ k. part_of t (e k)) j)
-    within t m zero p l = absurd (omega arith)
-    within t m (suc j) p l =
-        ltb_cases j total_count (λ _. held_at sums (suc j) t ≤ held_of (suc j) case_count (of_kind kind (λ k. part_of t (e k)) (suc j)))
-        (λ b. rw (never_alone j b) (omega (arith, h.total j t b m, total_within kind e (suc j) t)))
-        (λ b. omega (arith, h.held (suc j) t (omega arith) l m))
+module _ (held : ℕ → ℕ → ℕ) (kind : ℕ → ℕ) (e : ℕ → ℤ) (below : (k : ℕ) → kind k < kind_count) (h : Summed held kind e) (small : (k : ℕ) → nat_abs (e k) ≤ effect_most) where
+  within : (t : ℕ) → t < 2 → (j : ℕ) → 0 < j → j < kind_count → held j t ≤ held_of j case_count (of_kind kind (λ k. part_of t (e k)) j)
+  unfolding held_by
+  within t m zero p l = absurd (omega arith)
+  within t m (suc j) p l =
+      ltb_cases j total_count (λ _. held (suc j) t ≤ held_of (suc j) case_count (of_kind kind (λ k. part_of t (e k)) (suc j)))
+      (λ b. rw (never_alone j b) (omega (arith, h.total j t b m, total_within kind e (suc j) t)))
+      (λ b. omega (arith, h.others (suc j) t (omega arith) l m))
 
-    side : (t : ℕ) → t < 2 → let u : ℕ → ℕ = λ j. held_at sums j t in u 1 + u 2 + u 3 + u 4 + u 5 + u 6 + u 7 + u 8 + u 9 + u 10 + u 11 + u 12 + u 13 + u 14 ≤ case_count * effect_most
-    side t m = held_total case_count kind (λ k. part_of t (e k)) below (λ k. omega (arith, part_le t (e k), small k)) (λ j. held_at sums j t) (within t m)
+  pub sums_most : (j t : ℕ) → 0 < j → j < kind_count → t < 2 → held j t ≤ case_count * effect_most
+  unfolding held_by
+  sums_most j t p l m = omega (arith, within t m j p l, held_most (alone (class_of j)) (λ k. eqb (kind k) j) e small t case_count)
+
+  side : (t : ℕ) → t < 2 → let u : ℕ → ℕ = λ j. held j t in u 1 + u 2 + u 3 + u 4 + u 5 + u 6 + u 7 + u 8 + u 9 + u 10 + u 11 + u 12 + u 13 + u 14 ≤ case_count * effect_most
+  side t m = held_total case_count kind (λ k. part_of t (e k)) below (λ k. omega (arith, part_le t (e k), small k)) (λ j. held j t) (within t m)
+
+  pub terms_in_range : (sign : Sign) → TermsInRange (terms_of held sign)
+  terms_in_range Plus = small_terms (λ j. held j 0) (λ j. held j 1) (case_count * effect_most) (side 0 (omega arith)) (side 1 (omega arith)) (omega arith)
+  terms_in_range Minus = small_terms (λ j. held j 1) (λ j. held j 0) (case_count * effect_most) (side 1 (omega arith)) (side 0 (omega arith)) (omega arith)

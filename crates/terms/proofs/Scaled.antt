@@ -7,21 +7,26 @@ use mathlib.Core.Path.{◌≡◌, refl, ap, ◌∙◌}
 use lib.IntN.{ℤ, pos, ◌+ℤ◌, ◌*ℤ◌, nat_abs}
 use lib.Signed.{mag}
 use mir.Syntax.{w64}
-use mir.Val.{to_z, of_z}
-use Rattle.integers.proofs.Machine.{back, read, read_room, read_scaled}
+use mir.Val.{to_z, of_z, SFits}
+use Rattle.integers.proofs.Machine.{back, read, fit_mul, fit_add, fit_back}
 use Rattle.integers.proofs.Signs.{abs_add, abs_mul}
 use Rattle.terms.specs.Value.{factor_most, Gained}
 
-module _ (total w x : ℤ) (f : ℕ) (is : w ≡ pos f) (limit : f ≤ factor_most) (ft : mag total < 2 ^ 63) (fw : mag w < 2 ^ 63) (fx : mag x < 2 ^ 63) where
-  pub term_room : nat_abs total + factor_most * nat_abs x < 2 ^ 63 →
-      nat_abs (to_z w64 (of_z w64 total)) + nat_abs (to_z w64 (of_z w64 w)) * nat_abs (to_z w64 (of_z w64 x)) < 2 ^ 63
-  term_room h =
-      read_room total w x ft fw fx (omega (arith, ap (λ (z : ℤ). nat_abs z * nat_abs x) is, mul-le-mul_right (nat_abs x) limit))
+-- w is the factor f, which is small
+module _ (total w x : ℤ) (f : ℕ) (is : w ≡ pos f) (limit : f ≤ factor_most) (fw : SFits w64 w) (fx : SFits w64 x)
+    (h : nat_abs total + factor_most * nat_abs x < 2 ^ 63) where
+  fits : nat_abs total + nat_abs w * nat_abs x < 2 ^ 63
+  fits = omega (arith, ap (λ (z : ℤ). nat_abs z * nat_abs x) is, mul-le-mul_right (nat_abs x) limit)
 
-  pub term_gained : (r : ℤ) → mag r < 2 ^ 63 → r ≡ to_z w64 (of_z w64 total) +ℤ to_z w64 (of_z w64 w) *ℤ to_z w64 (of_z w64 x) →
-      Gained (to_z w64 (of_z w64 r)) total f x
-  term_gained r fr e =
-      let q : to_z w64 (of_z w64 r) ≡ total +ℤ pos f *ℤ x = read r fr ∙ read_scaled r total w x ft fw fx e ∙ ap (λ (z : ℤ). total +ℤ z *ℤ x) is in
+  pub mul_fits : SFits w64 (to_z w64 (of_z w64 w) *ℤ to_z w64 (of_z w64 x))
+  mul_fits = fit_mul total w x fw fx fits
+
+  pub add_fits : SFits w64 (to_z w64 (of_z w64 total) +ℤ to_z w64 (of_z w64 (to_z w64 (of_z w64 w) *ℤ to_z w64 (of_z w64 x))))
+  add_fits = fit_add total w x fw fx fits
+
+  pub gained : Gained (to_z w64 (of_z w64 (to_z w64 (of_z w64 total) +ℤ to_z w64 (of_z w64 (to_z w64 (of_z w64 w) *ℤ to_z w64 (of_z w64 x)))))) total f x
+  gained =
+      let q = fit_back total w x fw fx fits ∙ ap (λ (z : ℤ). total +ℤ z *ℤ x) is in
       record {
         is = q;
         small = omega (arith, ap nat_abs q, abs_add total (pos f *ℤ x), abs_mul (pos f) x, mul-le-mul_right (nat_abs x) limit);

@@ -1,12 +1,13 @@
 -- A row's value from its terms.
-use Rattle.std.specs.Prelude.{ℕ, ◌+◌, ◌*◌, ◌≤◌, max, List, ◌≡◌, ℤ, pos, neg_ℤ, ◌+ℤ◌, ◌*ℤ◌, nat_abs}
+use Rattle.std.specs.Prelude.{ℕ, ◌+◌, ◌*◌, ◌≤◌, max, ◌≡◌, ℤ, pos, neg_ℤ, ◌+ℤ◌, ◌*ℤ◌, nat_abs}
 use Rattle.integers.specs.Sums.{up}
 use Rattle.standard.specs.declared.Settings.{Settings}
 use Rattle.standard.specs.Rows.{factor_of}
 use Rattle.optimum.specs.Row.{lower_of}
 use Rattle.terms.specs.declared.Terms.{Terms}
+use Rattle.envelope.specs.declared.Sign.{Sign}
 use Rattle.envelope.specs.Range.{effect_most}
-use Rattle.sums.specs.Sums.{held_at}
+use Rattle.envelope.specs.Signs.{over, under}
 
 -- the terms of what is held above zero and below, by kind
 unfoldable pub terms_by : (above below : ℕ → ℕ) → Terms
@@ -27,8 +28,9 @@ terms_by u d =
       icewind = pos (u 13);
     }
 
-abbrev pub terms_of : List ℕ → (over under : ℕ) → Terms
-terms_of sums over under = terms_by (λ j. held_at sums j over) (λ j. held_at sums j under)
+-- from what is held of each kind on each side: of the effects with a sign
+abbrev pub terms_of : (ℕ → ℕ → ℕ) → Sign → Terms
+terms_of held sign = terms_by (λ j. held j (over sign)) (λ j. held j (under sign))
 
 -- the sizes of the terms, all together: each case is counted once on each side
 abbrev pub singles_size : Terms → ℕ

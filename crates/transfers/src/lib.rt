@@ -2,32 +2,16 @@
 
 #![tactic(auto)]
 
-ghost use Rattle.std.specs.Prelude.{◌≡◌, cond, ◌-◌, ◌≤◌, ◌<◌, length};
+ghost use Rattle.std.specs.Prelude.{◌≡◌, ◌≤◌, length};
 ghost use Rattle.std.proofs.Math.Seq.{slice};
 ghost use Rattle.wire.specs.Bytes.{over};
-ghost use Rattle.transfers.specs.Filled.{Filled};
+ghost use Rattle.transfers.specs.Filled.{ReadAfter, Filled, is_ended, is_failed};
 
+use pauses::Pause;
 use std::fmt::InlineText;
 use std::io;
 use std::io::ErrorKind;
 use std::time::Clock;
-
-// The turns left after one: a loop ends where it is not to go on.
-pub fn remaining(more: bool, left: u64) -> u64
-    requires { 0 < left }
-    ensures { (result < left) × (result ≡ cond more (left - 1) 0) }
-{
-    if more { left - 1 } else { 0 }
-}
-
-// In nanoseconds, how long to wait where a call cannot go on for now: at first, and from where on the pause grows no longer.
-pub const FIRST_PAUSE: u32 = 50_000;
-
-const LONG_PAUSE: u32 = 4_000_000;
-
-fn longer(pause: u32) -> u32 {
-    if pause < LONG_PAUSE { pause * 2 } else { pause }
-}
 
 // The line on standard error for a call that failed: what failed, and the system's text. Where the line cannot be written, nobody can be told.
 pub fn tell(rt: &impl Eprint, call: &str, error: io::Error) {
@@ -40,122 +24,122 @@ pub fn tell(rt: &impl Eprint, call: &str, error: io::Error) {
     };
 }
 
-// Whether a call that moved nothing is made again, and the pause where the next one cannot go on either.
-#[derive(Drop)]
-struct Retry {
-    again: bool,
-    pause: u32,
-}
-
-fn after_pause(rt: &impl Clock, pause: u32) -> Retry {
-    pauses::wait(rt, pause);
-    Retry {
-        again: true,
-        pause: longer(pause),
-    }
-}
-
-// A call that cannot go on for now is made again after a pause, an interrupted one at once. Any other has failed, which standard error
-// is told.
-fn moved_nothing(
+// After a call that moved nothing: the pause where the next one cannot go on either, none where the call has failed, which standard error is
+// told. A call that cannot go on for now is made again after a pause, an interrupted one at once.
+fn retried(
     rt: &(impl Eprint + Clock),
     call: &str,
     moved: io::Result<usize>,
-    pause: u32,
-) -> Retry {
-    let Err(error) = moved else {
-        return after_pause(rt, pause);
-    };
-    match error.kind() {
-        ErrorKind::WouldBlock => after_pause(rt, pause),
-        ErrorKind::Interrupted => Retry { again: true, pause },
-        _ => {
-            tell(rt, call, error);
-            Retry {
-                again: false,
-                pause,
+    pause: Pause,
+) -> Option<Pause> {
+    if let Err(error) = moved {
+        match error.kind() {
+            ErrorKind::WouldBlock => {}
+            ErrorKind::Interrupted => return Some(pause),
+            _ => {
+                tell(rt, call, error);
+                return None;
             }
         }
     }
-}
-
-// How many bytes are written so far, whether another call is to follow, and the pause where that one cannot go on.
-#[derive(Drop)]
-struct Moved {
-    count: usize,
-    more: bool,
-    pause: u32,
-}
-
-// Writes some of the bytes that are left.
-fn write_some(
-    rt: &(impl Eprint + Clock),
-    stdout: &mut impl io::Write,
-    bytes: &[u8],
-    count: usize,
-    pause: u32,
-) -> Moved
-    requires { count ≤ length bytes.now }
-    ensures { result.count ≤ length bytes.now }
-{
-    let put = stdout.write(&bytes[count..]);
-    let n = put.unwrap_or(0);
-    if n == 0 {
-        let r = moved_nothing(rt, "frames: write", put, pause);
-        return Moved {
-            count,
-            more: r.again,
-            pause: r.pause,
-        };
-    }
-    let end = count + n;
-    Moved {
-        count: end,
-        more: end < bytes.len(),
-        pause: FIRST_PAUSE,
-    }
+    pause.wait(rt);
+    Some(pause.longer())
 }
 
 // How many bytes were handed on, and how many of them are written: fewer where a write failed.
-#[derive(Drop)]
+#[derive(Clone, Copy, PartialEq, Eq, Debug)]
 pub struct Sent {
     pub given: usize,
     pub taken: usize,
 }
 
+// A proved loop ends, and no fact says that the writes do: they are counted to a number that no run reaches.
 pub fn write_all(rt: &(impl Eprint + Clock), stdout: &mut impl io::Write, bytes: &[u8]) -> Sent
     ensures { (result.given ≡ length bytes.now) × (result.taken ≤ length bytes.now) }
 {
     let given = bytes.len();
-    if given == 0 {
-        return Sent { given, taken: 0 };
+    let mut taken = 0;
+    let mut pause = Pause::first();
+    for _ in 0..u64::MAX {
+        if taken == given {
+            break;
+        }
+        match stdout.write(&bytes[taken..]) {
+            Ok(n) if n != 0 => {
+                taken += n;
+                pause = Pause::first();
+            }
+            moved => {
+                let Some(next) = retried(rt, "frames: write", moved, pause) else {
+                    break;
+                };
+                pause = next;
+            }
+        }
     }
-    let mut m = Moved {
-        count: 0,
-        more: true,
-        pause: FIRST_PAUSE,
-    };
-    let mut left = u64::MAX;
-    while left > 0 {
-        let count = m.count;
-        let pause = m.pause;
-        m = write_some(rt, stdout, bytes, count, pause);
-        left = remaining(m.more, left);
+    Sent { given, taken }
+}
+
+/// What may follow the bytes that are at hand.
+#[derive(Clone, Copy, PartialEq, Eq, Debug)]
+pub enum Source {
+    Open,
+    Ended,
+    Failed,
+}
+
+impl Source {
+    pub fn is_ended(self) -> bool
+        ensures { result ≡ is_ended self }
+    {
+        matches!(self, Source::Ended)
     }
-    Sent {
-        given,
-        taken: m.count,
+
+    pub fn is_failed(self) -> bool
+        ensures { result ≡ is_failed self }
+    {
+        matches!(self, Source::Failed)
     }
 }
 
-// How many bytes of input are at hand, whether the input is at its end, whether the read failed, and the pause where the next one cannot
-// go on.
-#[derive(Drop)]
+// How many bytes of input are at hand, what may follow them, and the pause where the next read cannot go on.
+#[derive(Clone, Copy, PartialEq, Eq, Debug)]
 pub struct Read {
     pub count: usize,
-    pub ended: bool,
-    pub failed: bool,
-    pub pause: u32,
+    pub source: Source,
+    pub pause: Pause,
+}
+
+// Reads more bytes after those held. `call` names the read on standard error, where it fails.
+pub fn read_more(
+    rt: &(impl Eprint + Clock),
+    call: &str,
+    stdin: &mut impl io::Read,
+    input: &mut [u8],
+    held: usize,
+    pause: Pause,
+) -> Read
+    requires { held ≤ length input.old }
+    ensures after { ReadAfter held result.count input.old input.new }
+    ensures ended { result.source ≡ Source.Ended → result.count ≡ held }
+{
+    let got = stdin.read(&mut input[held..]);
+    let Ok(n) = got else {
+        let (source, pause) = match retried(rt, call, got, pause) {
+            Some(next) => (Source::Open, next),
+            None => (Source::Failed, pause),
+        };
+        return Read {
+            count: held,
+            source,
+            pause,
+        };
+    };
+    Read {
+        count: held + n,
+        source: if n == 0 { Source::Ended } else { Source::Open },
+        pause: Pause::first(),
+    }
 }
 
 // Reads more bytes after those held, unless a field can be read already.
@@ -164,35 +148,19 @@ pub fn read_some(
     stdin: &mut impl io::Read,
     input: &mut [u8],
     held: usize,
-    pause: u32,
+    pause: Pause,
 ) -> Read
     requires { held ≤ length input.old }
-    ensures { Filled held result.count result.ended result.failed input.old input.new }
+    ensures { Filled held result.count (is_ended result.source) (is_failed result.source) input.old input.new }
 {
-    if headers::is_ready(&input[0..held]) {
+    if headers::is_ready(&input[..held]) {
         return Read {
             count: held,
-            ended: false,
-            failed: false,
+            source: Source::Open,
             pause,
         };
     }
-    let got = stdin.read(&mut input[held..]);
-    let Ok(n) = got else {
-        let r = moved_nothing(rt, "frames: read", got, pause);
-        return Read {
-            count: held,
-            ended: false,
-            failed: !r.again,
-            pause: r.pause,
-        };
-    };
-    Read {
-        count: held + n,
-        ended: n == 0,
-        failed: false,
-        pause: FIRST_PAUSE,
-    }
+    read_more(rt, "frames: read", stdin, input, held, pause)
 }
 
 // Moves the bytes between two places down to the start.
@@ -200,13 +168,5 @@ pub fn shift(buffer: &mut [u8], from: usize, to: usize)
     requires { (from ≤ to) × (to ≤ length buffer.old) }
     ensures { buffer.new ≡ over (slice from to buffer.old) buffer.old }
 {
-    if from == 0 {
-        return;
-    }
-    let n = to - from;
-    let mut i = 0;
-    while i < n {
-        buffer[i] = buffer[from + i];
-        i += 1;
-    }
+    buffer.copy_within(from..to, 0);
 }

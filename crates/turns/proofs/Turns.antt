@@ -8,19 +8,16 @@ use mathlib.Core.Bool.{Bool, true, false, not, ◌&&◌}
 use native.Mathlib.Omega.{arith}
 use lib.ListN.{length, take, drop, take-append-drop}
 use lib.Dec.{eqb}
-use lib.IntN.{ℤ}
 use lib.Seq.{slice, length-slice, length-sets, length-take-le, take_at, take-take}
 use Rattle.wire.specs.Bytes.{over}
 use Rattle.wire.proofs.Stores.{front}
 use Rattle.sheet.specs.declared.Sheet.{Sheet}
-use Rattle.sheet.specs.Parts.{whole}
 use Rattle.headers.specs.Headers.{ready_of}
 use Rattle.lists.specs.Lists.{fields_of, span_of, answers_to, bytes_of}
 use Rattle.stream.specs.declared.Progress.{Progress}
 use Rattle.stream.specs.Answering.{answered_of, begun, Progressed}
 use Rattle.pieces.specs.Turns.{Turned}
 use Rattle.pieces.proofs.Ends.{end_fields}
-use Rattle.turns.specs.declared.Service.{Service}
 use Rattle.transfers.specs.Filled.{Filled}
 use Rattle.answers.specs.Answers.{answer_room}
 
@@ -54,37 +51,36 @@ handed_is w o {o'} {written} {given} l e k n g =
 ended_all : (ended : Bool) (w : List ℕ) (room : ℕ) (s : Sheet) → ended ≡ true → ready_of w ≡ false → answer_room ≤ room → answered_of ended room (fields_of w) s ≡ fields_of w
 ended_all ended w room s y e h = rw y (end_fields w room s e h)
 
-pub turned : (s : Service) (effects sums : List ℤ) (i o : List ℕ) (ended failed : Bool) {count given taken : ℕ} {p : Progress} {effects' sums' : List ℤ} {i₁ i₂ o' : List ℕ} →
-    answer_room ≤ length o → Filled s.held count ended failed i i₁ →
-    Progressed (answered_of ended (length o) (fields_of (take (count - 0) (drop 0 i₁))) (whole s.rest effects sums)) (begun s.rest) effects sums o p effects' sums' o' →
+pub turned : (held : ℕ) (s : Sheet) (i o : List ℕ) (ended failed : Bool) {count given taken : ℕ} {p : Progress} {s' : Sheet} {i₁ i₂ o' : List ℕ} →
+    answer_room ≤ length o → Filled held count ended failed i i₁ →
+    Progressed (answered_of ended (length o) (fields_of (take (count - 0) (drop 0 i₁))) s) begun s o p s' o' →
     p.written ≤ length o →
     (given ≡ length (take (p.written - 0) (drop 0 o'))) × (taken ≤ length (take (p.written - 0) (drop 0 o'))) →
     i₂ ≡ over (slice p.consumed count i₁) i₁ →
-    Turned (length o) (whole s.rest effects sums) (take s.held i) (take given o') taken (whole p.rest effects' sums') (take (count - p.consumed) i₂)
+    Turned (length o) s (take held i) (take given o') taken s' (take (count - p.consumed) i₂)
     (((not ended && not failed) && eqb taken given) && not p.stop)
-turned s effects sums i o ended failed {count} {given} {taken} {p} {effects'} {sums'} {i₁} {i₂} {o'} g h a r w m =
+turned held s i o ended failed {count} {given} {taken} {p} {s'} {i₁} {i₂} {o'} g h a r w m =
     let z : count - 0 ≡ count = omega arith in
     let e = at_hand h in
-    let sheet = whole s.rest effects sums in
-    let got = take s.held i ++ slice s.held count i₁ in
-    let fs = answered_of ended (length o) (fields_of got) sheet in
-    let b = bytes_of (answers_to fs sheet) in
-    let x : Progressed fs (begun s.rest) effects sums o p effects' sums' o' = rw (z, e) at a in
+    let got = take held i ++ slice held count i₁ in
+    let fs = answered_of ended (length o) (fields_of got) s in
+    let b = bytes_of (answers_to fs s) in
+    let x : Progressed fs begun s o p s' o' = rw (z, e) at a in
     let c : p.consumed ≡ span_of fs = omega (arith, x.consumed) in
     let l : count ≤ length i₁ = omega (arith, h.most, h.same) in
     let n : p.written ≡ length b = omega (arith, x.written) in
     let k : length b ≤ length o = omega arith in
     let q = handed_is b o k (x.output ∙ front b o k) (ap length x.output ∙ length-sets o 0 b) n w.0 in
     record {
-      new = slice s.held count i₁;
+      new = slice held count i₁;
       ended = ended;
       failed = failed;
       fields = fs;
       which = refl;
       all = λ y.
           let d = h.at_end y in
-          let v : got ≡ take s.held i = sym e ∙ (ap (λ (j : ℕ). take j i₁) d.0 ∙ h.kept) in
-          ended_all ended got (length o) sheet y (ap ready_of v ∙ d.1) g;
+          let v : got ≡ take held i = sym e ∙ (ap (λ (j : ℕ). take j i₁) d.0 ∙ h.kept) in
+          ended_all ended got (length o) s y (ap ready_of v ∙ d.1) g;
       sheet = x.sheet;
       handed = q.0;
       most = rw q.0 (omega (arith, q.1, w.0, w.1));

@@ -4,23 +4,20 @@
 
 ghost use Rattle.std.specs.Prelude.{◌≡◌, ◌≤◌, length, take};
 ghost use Rattle.sheet.specs.Range.{InRange};
-ghost use Rattle.sheet.specs.Parts.{whole};
 ghost use Rattle.pieces.specs.Turns.{Turned};
 ghost use Rattle.answers.specs.Answers.{answer_room};
 
-use dead_sums::DeadSums;
-use effects::Effects;
-use sheet::Rest;
+use pauses::Pause;
+use sheet::Sheet;
 use std::io::{Read, Write};
 use std::time::Clock;
 
-// What the service keeps from turn to turn: the sheet apart from its effects and sums, how many bytes of input it holds, the pause where a read
-// cannot go on, how many bytes of output it handed on and how many of them were written, and whether it goes on.
+// What the service keeps from turn to turn beside the sheet: how many bytes of input it holds, the pause where a read cannot go on, how many
+// bytes of output it handed on and how many of them were written, and whether it goes on.
 #[derive(Drop)]
 pub struct Service {
-    pub rest: Rest,
     pub held: usize,
-    pub pause: u32,
+    pub pause: Pause,
     pub given: usize,
     pub taken: usize,
     pub more: bool,
@@ -32,32 +29,27 @@ pub fn turn(
     stdin: &mut impl Read,
     stdout: &mut impl Write,
     s: Service,
-    effects: &mut Effects,
-    sums: &mut DeadSums,
+    sheet: &mut Sheet,
     input: &mut [u8],
     output: &mut [u8],
 ) -> Service
-    requires { InRange (whole s.rest effects.old sums.old) × (s.held ≤ length input.old) × (answer_room ≤ length output.old) }
-    ensures turned { Turned (length output.old) (whole s.rest effects.old sums.old) (take s.held input.old) (take result.given output.new) result.taken (whole result.rest effects.new sums.new) (take result.held input.new) result.more }
-    ensures in_range { InRange (whole result.rest effects.new sums.new) × (result.held ≤ length input.old) × (length input.new ≡ length input.old) × (length output.new ≡ length output.old) }
+    requires { InRange sheet.old × (s.held ≤ length input.old) × (answer_room ≤ length output.old) }
+    ensures turned { Turned (length output.old) sheet.old (take s.held input.old) (take result.given output.new) result.taken sheet.new (take result.held input.new) result.more }
+    ensures in_range { InRange sheet.new × (result.held ≤ length input.old) × (length input.new ≡ length input.old) × (length output.new ≡ length output.old) }
 {
-    let rest = s.rest;
-    let held = s.held;
-    let pause = s.pause;
-    let m = transfers::read_some(rt, stdin, input, held, pause);
+    let m = transfers::read_some(rt, stdin, input, s.held, s.pause);
     let end = m.count;
-    let p = stream::answer_all(rest, effects, sums, m.ended, &input[0..end], output);
+    let ended = m.source.is_ended();
+    let p = stream::answer_all(sheet, ended, &input[0..end], output);
     let consumed = p.consumed;
     let written = p.written;
     let w = transfers::write_all(rt, stdout, &output[0..written]);
     transfers::shift(input, consumed, end);
-    let next = p.rest;
     Service {
-        rest: next,
         held: end - consumed,
         pause: m.pause,
         given: w.given,
         taken: w.taken,
-        more: !m.ended & !m.failed & (w.taken == w.given) & !p.stop,
+        more: !ended & !m.source.is_failed() & (w.taken == w.given) & !p.stop,
     }
 }

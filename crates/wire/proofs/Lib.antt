@@ -1,3 +1,4 @@
 pub mod Cases
 pub mod Complement
+pub mod Numbers
 pub mod Stores

@@ -16,19 +16,19 @@ pub const NAME: &str = "name";
 
 /// The bounds are the counts of the library as it is; they are set here alone.
 pub const LISTS: [Counted; 14] = [
-    counted("03", 1, 8, 391),
-    counted("03", 1, 32, 390),
-    counted("02/04", 1, 8, 387),
-    counted("02/04", 1, 32, 384),
-    counted("06", 1, 8, 1656),
-    counted("06", 1, 32, 2358),
-    counted("06", 2, 8, 1674),
-    counted("06", 2, 32, 2403),
-    counted("07", 1, 8, 3080),
-    counted("07", 1, 32, 4202),
-    counted("07", 2, 8, 3194),
-    counted("07", 2, 32, 4369),
-    counted("60", 1, 8, 288),
+    counted("03", 1, 8, 211),
+    counted("03", 1, 32, 210),
+    counted("02/04", 1, 8, 278),
+    counted("02/04", 1, 32, 276),
+    counted("06", 1, 8, 1440),
+    counted("06", 1, 32, 2211),
+    counted("06", 2, 8, 1491),
+    counted("06", 2, 32, 2293),
+    counted("07", 1, 8, 2750),
+    counted("07", 1, 32, 3901),
+    counted("07", 2, 8, 3007),
+    counted("07", 2, 32, 4214),
+    counted("60", 1, 8, 116),
     counted(NAME, 1, 8, 20),
 ];
 

@@ -1,40 +1,32 @@
--- One more station has the case's effects set to 0; the last of them is the last station.
-use Rattle.std.proofs.Common.{◌≡◌, ◌∙◌, refl, ap, arith, add-one, length, pos, [], ◌∷◌}
+-- One more station has the case's effects set to 0.
+use Rattle.std.proofs.Common.{◌∙◌, refl, ap, arith, add-one, length, pos, [], ◌∷◌}
 use Rattle.std.proofs.lemmas.List.Edits.{sets}
-use Rattle.envelope.specs.Range.{station_count}
 use Rattle.effects.specs.Effects.{place, cleared}
-use Rattle.effects.proofs.Stored.{length_cleared, cleared_within}
+use Rattle.effects.proofs.Stored.{Within, length_cleared, cleared_within}
+use Rattle.wire.proofs.Stores.{replicate_all}
 use Rattle.dead_sums.proofs.clear_case.Goals as goal
 
-pub loop-t-init : goal.loop-t-init
+pub loop-station-init : goal.loop-station-init
 unfolding cleared
-loop-t-init c = (omega arith, refl, c.requires.1.sums_true)
+loop-station-init c = (refl, c.requires.1.sums_true)
 
 pub put_effects-requires : goal.put_effects-requires
 put_effects-requires c =
-    let l = c.loop-t in
+    let l = c.loop-station in
     let h = c.requires.1 in (
       c.requires.0,
       omega arith,
-      omega arith,
-      omega arith,
-      omega arith,
+      replicate_all Within (pos 0) (pos 0) (omega arith) (omega arith) 3,
       record {
-        effects_long = ap length l.invariant.1 ∙ length_cleared c.args.effects.now c.args.case l.t ∙ h.effects_long;
-        effects_range = λ i. rw l.invariant.1 (cleared_within c.args.effects.now c.args.case l.t i (h.effects_range i));
-        sums_true = l.invariant.2;
+        effects_long = ap length l.invariant.0 ∙ length_cleared c.args.effects.now c.args.case l.station ∙ h.effects_long;
+        effects_range = λ i. rw l.invariant.0 (cleared_within c.args.effects.now c.args.case l.station i (h.effects_range i));
+        sums_true = l.invariant.1;
       },
     )
 
-pub loop-t-preserved : goal.loop-t-preserved
+pub loop-station-preserved : goal.loop-station-preserved
 unfolding cleared
-loop-t-preserved c =
-    let l = c.loop-t in
+loop-station-preserved c =
+    let l = c.loop-station in
     let p = c.put_effects.ensures in
-    (omega arith, rw (add-one l.t) (p.0 ∙ ap (λ e. sets e (place c.args.case l.t) (pos 0 ∷ pos 0 ∷ pos 0 ∷ [])) l.invariant.1), p.1)
-
-pub returns : goal.returns
-returns c =
-    let l = c.loop-t in
-    let h : l.t ≡ station_count = omega arith in
-    (l.invariant.1 ∙ ap (cleared c.args.effects.now c.args.case) h, l.invariant.2)
+    (rw (add-one l.station) (p.0 ∙ ap (λ e. sets e (place c.args.case l.station) (pos 0 ∷ pos 0 ∷ pos 0 ∷ [])) l.invariant.0), p.1)

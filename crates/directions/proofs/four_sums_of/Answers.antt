@@ -1,77 +1,75 @@
--- The loop holds the sums of the kinds below `kind` in the four directions.
-use Prim.Native.Nat.{ℕ, ◌+◌, ◌<◌}
+-- The totals are those of D and F in the four directions, and fit.
+use Prim.Native.Nat.{ℕ, zero, suc, ◌+◌, ◌*◌, ◌<◌, ◌≤◌}
 use native.Mathlib.Omega.{arith}
-use mathlib.Core.Bool.{Bool}
-use mathlib.Core.List.{List}
-use mathlib.Core.Path.{◌≡◌, sym, ap, ◌∙◌, subst}
-use lib.IntN.{ℤ}
-use lib.ListN.{length, get_or}
-use Rattle.integers.specs.Sets.{has}
-use Rattle.standard.specs.Kinds.{class_of, kind_count}
-use Rattle.standard.specs.Combination.{case_count}
-use Rattle.envelope.specs.Range.{effect_of}
-use Rattle.directions.specs.declared.FourSides.{FourSides}
-use Rattle.sums.specs.declared.Sides.{Sides}
-use Rattle.sums.specs.Sums.{sum_count, total_count, totals_put, SumsOf, alone, sides_put, sides_in}
-use Rattle.directions.specs.Four.{directed, four_in, FourInRange}
-use Rattle.sums.proofs.Gathered.{totals_put_lem, kind_more}
-use Rattle.directions.proofs.FourHeld.{four_in_range, directed_most}
+use mathlib.Core.List.{List, [], ◌∷◌}
+use mathlib.Core.Path.{◌≡◌, ◌∙◌, ap}
+use lib.IntN.{ℤ, pos, ◌*ℤ◌, nat_abs}
+use lib.ListN.{get_or}
+use mir.Syntax.{w64}
+use mir.Val.{to_z, of_z}
+use Rattle.integers.proofs.Machine.{back}
+use Rattle.standard.specs.Kinds.{kind_count}
+use Rattle.envelope.specs.declared.Weights.{Weights}
+use Rattle.envelope.specs.Range.{effect_of, total_most, TotalsInRange, WeightsInRange}
+use Rattle.sums.specs.Sums.{total_count, total_in, TotalsFit}
+use Rattle.sums.proofs.Gathered.{totals_same}
+use Rattle.directions.specs.Four.{directions_of, directed}
+use Rattle.directions.proofs.Sizes.{directed_size, directed_most}
 use Rattle.directions.proofs.four_sums_of.Goals as goal
 
--- in one direction
-module _ (totals : ℕ → ℤ) (places : List ℕ) (effect : ℕ → ℤ) where
-  first_put : (before : List ℕ) {after : List ℕ} → length before ≡ sum_count → after ≡ totals_put before totals → SumsOf after totals places effect 3
-  first_put before l e = subst (λ (x : List ℕ). SumsOf x totals places effect 3) (sym e) (totals_put_lem totals places effect before l)
+-- the directions of the total at j
+abbrev ways : Weights → List ℤ → ℕ → List ℤ
+ways w totals j = directions_of (w.n *ℤ effect_of totals j 0) (w.y *ℤ effect_of totals j 1) (w.z *ℤ effect_of totals j 2)
 
-  more_put : (kind : ℕ) {sums after : List ℕ} {x : Sides} → SumsOf sums totals places effect kind → total_count < kind → kind < kind_count →
-      x ≡ sides_in (alone (class_of kind)) (has (get_or places kind 0)) effect case_count → after ≡ sides_put sums kind x → SumsOf after totals places effect (kind + 1)
-  more_put kind {sums} {after} {x} h low high is e =
-      subst (λ (l : List ℕ). SumsOf l totals places effect (kind + 1)) (sym e) (kind_more totals places effect sums kind h low high x is)
+module _ (w : Weights) (totals : List ℤ) {dead fluid : List ℤ} (d_is : dead ≡ ways w totals 0) (f_is : fluid ≡ ways w totals 1) where
+  totals_are : (d j : ℕ) → j < total_count → total_in (dead ∷ fluid ∷ []) d j ≡ directed w (effect_of totals) d j
+  totals_are d zero l = ap (λ (xs : List ℤ). get_or xs d (pos 0)) d_is
+  totals_are d (suc zero) l = ap (λ (xs : List ℤ). get_or xs d (pos 0)) f_is
+  totals_are d (suc (suc j)) l = absurd (omega arith)
 
-pub loop-kind-init : goal.loop-kind-init
-loop-kind-init c =
-    let a = c.args in
-    let t = directed a.w (effect_of a.totals.now) in
-    let d = directed a.w (effect_of a.effects.now) in (
+  totals_fit : TotalsInRange totals → WeightsInRange w → TotalsFit (dead ∷ fluid ∷ [])
+  totals_fit r weights = record { each = each }
+    where
+      size : (j d : ℕ) → nat_abs (directed w (effect_of totals) d j) ≤ 3 * (100000000 * total_most)
+      size j d = directed_size w weights (effect_of totals) total_most j (λ c. r.range (j * 3 + c)) d
+
+      each : (d j : ℕ) → nat_abs (total_in (dead ∷ fluid ∷ []) d j) ≤ 96000000000000
+      each d zero = rw (totals_are d 0 (omega arith)) (omega (arith, size 0 d))
+      each d (suc zero) = rw (totals_are d 1 (omega arith)) (omega (arith, size 1 d))
+      each d (suc (suc j)) = omega arith
+
+-- what is read of a total is the total
+told : (totals : List ℤ) → TotalsInRange totals → (w : Weights) (a b c : ℕ) {way : List ℤ} →
+    way ≡ directions_of (w.n *ℤ to_z w64 (of_z w64 (get_or totals a (pos 0)))) (w.y *ℤ to_z w64 (of_z w64 (get_or totals b (pos 0)))) (w.z *ℤ to_z w64 (of_z w64 (get_or totals c (pos 0)))) →
+    way ≡ directions_of (w.n *ℤ get_or totals a (pos 0)) (w.y *ℤ get_or totals b (pos 0)) (w.z *ℤ get_or totals c (pos 0))
+told totals r w a b c e = e ∙ (λ i. directions_of (w.n *ℤ at a i) (w.y *ℤ at b i) (w.z *ℤ at c i))
+  where
+    at : (j : ℕ) → to_z w64 (of_z w64 (get_or totals j (pos 0))) ≡ get_or totals j (pos 0)
+    at j = back (get_or totals j (pos 0)) (omega (arith, r.range j))
+
+pub sum_up-requires : goal.sum_up-requires
+sum_up-requires c =
+    let t = c.args.totals.now in
+    let w = c.args.weights in (
       omega arith,
-      omega arith,
-      record {
-        first = first_put (λ j. (t j).first) a.places.now (λ k. (d k).first) a.s0.now c.requires.0 c.put_totals.ensures.0;
-        second = first_put (λ j. (t j).second) a.places.now (λ k. (d k).second) a.s1.now c.requires.1 c.put_totals.ensures.1;
-        third = first_put (λ j. (t j).third) a.places.now (λ k. (d k).third) a.s2.now c.requires.2 c.put_totals.ensures.2;
-        fourth = first_put (λ j. (t j).fourth) a.places.now (λ k. (d k).fourth) a.s3.now c.requires.3 c.put_totals.ensures.3;
-      },
+      (
+        omega arith,
+        (
+          omega arith,
+          (
+            totals_fit w t (told t c.requires.0 w 0 1 2 c.of-dead.ensures) (told t c.requires.0 w 3 4 5 c.of-fluid.ensures) c.requires.0 c.requires.1,
+            directed_most w c.requires.1 (effect_of c.args.effects.all.now) (λ k n. c.args.effects.in_range.range (k * 3 + n)),
+          ),
+        ),
+      ),
     )
 
-pub put_four-requires : goal.put_four-requires
-put_four-requires c =
-    let a = c.args in
-    let f = c.loop-kind.invariant.2 in (
-      f.first.long,
-      f.second.long,
-      f.third.long,
-      f.fourth.long,
-      omega arith,
-      subst FourInRange (sym c.four_sides_of-f.ensures)
-          (four_in_range _ (has (get_or a.places.now c.loop-kind.kind 0)) (directed a.w (effect_of a.effects.now))
-          (directed_most a.effects.now a.w c.requires.6 c.requires.7)),
-    )
-
-pub loop-kind-preserved : goal.loop-kind-preserved
-loop-kind-preserved c =
-    let a = c.args in
-    let t = directed a.w (effect_of a.totals.now) in
-    let d = directed a.w (effect_of a.effects.now) in
-    let n = c.loop-kind.kind in
-    let i = c.loop-kind.invariant.2 in
-    let high : n < kind_count = omega arith in
-    let made = c.four_sides_of-f.ensures ∙ ap (λ (b : Bool). four_in b (has (get_or a.places.now n 0)) d case_count) c.acts_alone.ensures in (
-      omega arith,
-      omega arith,
-      record {
-        first = more_put (λ j. (t j).first) a.places.now (λ k. (d k).first) n i.first c.loop-kind.invariant.0 high (ap (λ (f : FourSides). f.first) made) c.put_four.ensures.0;
-        second = more_put (λ j. (t j).second) a.places.now (λ k. (d k).second) n i.second c.loop-kind.invariant.0 high (ap (λ (f : FourSides). f.second) made) c.put_four.ensures.1;
-        third = more_put (λ j. (t j).third) a.places.now (λ k. (d k).third) n i.third c.loop-kind.invariant.0 high (ap (λ (f : FourSides). f.third) made) c.put_four.ensures.2;
-        fourth = more_put (λ j. (t j).fourth) a.places.now (λ k. (d k).fourth) n i.fourth c.loop-kind.invariant.0 high (ap (λ (f : FourSides). f.fourth) made) c.put_four.ensures.3;
-      },
-    )
+pub returns : goal.returns
+returns c =
+    let t = c.args.totals.now in
+    let w = c.args.weights in
+    record {
+      along = λ d l.
+          totals_same _ (directed w (effect_of t) d) c.args.places.now.sets (directed w (effect_of c.args.effects.all.now) d) kind_count
+          (totals_are w t (told t c.requires.0 w 0 1 2 c.of-dead.ensures) (told t c.requires.0 w 3 4 5 c.of-fluid.ensures) d) (c.sum_up.ensures d l);
+    }

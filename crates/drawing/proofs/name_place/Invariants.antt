@@ -3,8 +3,8 @@ use Rattle.std.proofs.Common.{length, ◌-◌}
 use Rattle.drawing.proofs.Names.{Named}
 use Rattle.drawing.proofs.name_place.Given as goal
 
-abbrev pub invariant-loop-tag : goal.invariant-loop-tag
-invariant-loop-tag l = Named l.file l.case l.at l.found
+abbrev pub invariant-loop-at : goal.invariant-loop-at
+invariant-loop-at l = Named l.file l.case l.at l.found
 
-abbrev pub decreases-loop-tag : goal.decreases-loop-tag
-decreases-loop-tag l = length l.file - l.at
+abbrev pub decreases-loop-at : goal.decreases-loop-at
+decreases-loop-at l = length l.file - l.at

@@ -3,8 +3,8 @@ use Rattle.std.proofs.Common.{length, ◌-◌}
 use Rattle.drawing.proofs.Ends.{Reached}
 use Rattle.drawing.proofs.whole_end.Given as goal
 
-abbrev pub invariant-loop-len : goal.invariant-loop-len
-invariant-loop-len l = Reached l.file l.at
+abbrev pub invariant-loop-field : goal.invariant-loop-field
+invariant-loop-field l = Reached l.file l.end
 
-abbrev pub decreases-loop-len : goal.decreases-loop-len
-decreases-loop-len l = length l.file - l.at
+abbrev pub decreases-loop-field : goal.decreases-loop-field
+decreases-loop-field l = length l.file - l.end

@@ -11,7 +11,6 @@ use Rattle.fields.specs.declared.Reading.{Reading}
 use Rattle.fields.specs.Field.{read_field}
 use Rattle.fields.specs.Order.{read_in_order, read_header, reading}
 use Rattle.answers.specs.Answers.{answer_room, answer_bytes}
-use Rattle.headers.proofs.Whole.{header_fits}
 use Rattle.fields.proofs.InOrder.{read_is}
 use Rattle.fields.proofs.Within.{read_on}
 use Rattle.fields.proofs.Named.{refused_fits, field_fits}
@@ -23,33 +22,30 @@ by_order input room s e = e ∙ sym (read_is input room s)
 
 pub returns-then-out-lt-ANSWER_ROOM : goal.returns-then-out-lt-ANSWER_ROOM
 unfolding read_in_order over answer_bytes
-returns-then-out-lt-ANSWER_ROOM c = read_on c.requires (record { reading = by_order _ _ _ (rw (lt-ltb _ answer_room c.if-out-lt-ANSWER_ROOM.true)); output = refl })
+returns-then-out-lt-ANSWER_ROOM c =
+    rw c.from.ensures (read_on c.requires (record { reading = by_order _ _ _ (rw (lt-ltb _ answer_room c.if-out-lt-ANSWER_ROOM.true)); output = refl }))
 
 pub put_answer-written-requires : goal.put_answer-written-requires
-put_answer-written-requires c = (search rules, refused_fits 3)
+put_answer-written-requires c = (search rules, rw c.from-answer.ensures (refused_fits 3))
 
 pub returns-in_default : goal.returns-in_default
 unfolding read_in_order read_header
 returns-in_default c =
-    let e = sym c.header_of-h.ensures ∙ c.in_default.is in
-    let p = c.put_answer-written.ensures in
-    read_on c.requires (record { reading = by_order _ _ _ (rw (le-ltb _ _ c.if-out-lt-ANSWER_ROOM.false, e, p.0)); output = p.1 })
-
-pub overflow_add-len : goal.overflow_add-len
-overflow_add-len c = omega (arith, header_fits _ _ _ c.header_of-h.ensures c.in-Field.is)
+    let e = sym c.header_of.ensures.header ∙ c.in_default.is in
+    let p = rw c.from-answer.ensures at c.put_answer-written.ensures in
+    rw c.from-answer.ensures (read_on c.requires (record { reading = by_order _ _ _ (rw (le-ltb _ _ c.if-out-lt-ANSWER_ROOM.false, e, p.0)); output = p.1 }))
 
 pub put_answer-written-requires-2 : goal.put_answer-written-requires-2
-put_answer-written-requires-2 c = (search rules, rw (ap (λ (a : Answered). a.answer) c.field_in-a.ensures) (field_fits _ _ _))
+put_answer-written-requires-2 c =
+    (search rules, rw c.from-answer-2.ensures (rw (ap (λ (a : Answered). a.answer) c.field_in.ensures) (field_fits _ _ _)))
 
 pub returns : goal.returns
 unfolding read_in_order read_header
 returns c =
-    let l = c.in-Field.len in
+    let l = c.in-Some.field-0.len in
     let g : 3 + l - 3 ≡ l = omega arith in
-    let e = sym c.header_of-h.ensures ∙ c.in-Field.is in
-    let p = c.put_answer-written-2.ensures in
-    read_on c.requires
-    (record { reading = by_order _ _ _ (rw (le-ltb _ _ c.if-out-lt-ANSWER_ROOM.false, e, p.0) (ap (reading (3 + l)) (rw g at c.field_in-a.ensures))); output = p.1 })
-
-pub slice_bounds-field_in-end : goal.slice_bounds-field_in-end
-slice_bounds-field_in-end c = header_fits _ _ _ c.header_of-h.ensures c.in-Field.is
+    let e = sym c.header_of.ensures.header ∙ c.in-Some.is in
+    let p = rw c.from-answer-2.ensures at c.put_answer-written-2.ensures in
+    rw c.from-answer-2.ensures
+    (read_on c.requires
+    (record { reading = by_order _ _ _ (rw (le-ltb _ _ c.if-out-lt-ANSWER_ROOM.false, e, p.0) (ap (reading (3 + l)) (rw g at c.field_in.ensures))); output = p.1 }))

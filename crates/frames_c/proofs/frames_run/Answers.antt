@@ -1,26 +1,29 @@
--- `frames_c::frames_run` meets its contract.
-use mathlib.Core.Path.{refl, sym, ◌∙◌}
-use Rattle.effects.specs.Effects.{zeros}
-use Rattle.frames_c.proofs.Calls.{roomy, run_due_is, answer_room_lem, run_due, run_done}
+-- What is answered is written and the sheet after it is saved, unless a refusal is due.
+use Rattle.std.proofs.Common.{◌≡◌, ◌∙◌, ℕ, ap, refl, Result, Ok, Err}
+use borrow.Author.Tests.{lt-ltb, le-ltb}
+use Rattle.std.specs.Result.{result_unwrap_or}
+use Rattle.refusals.specs.declared.Refusal.{Refusal}
+use Rattle.frames_c.specs.Calls.{count_of}
+use Rattle.frames_c.proofs.Calls.{small_place, run_done, run_refused}
 use Rattle.frames_c.proofs.frames_run.Goals as goal
 
-pub load-p-requires : goal.load-p-requires
-unfolding zeros
-load-p-requires c = (refl, refl)
+or_0 : (r : Result ℕ Refusal) → result_unwrap_or r 0 ≡ count_of r
+or_0 (Ok n) = refl
+or_0 (Err refusal) = refl
 
-pub read_all-q-requires : goal.read_all-q-requires
-read_all-q-requires c =
-    let l = c.load-p in
+pub returns-then-saved-lt-PLACE_ROOM : goal.returns-then-saved-lt-PLACE_ROOM
+returns-then-saved-lt-PLACE_ROOM c =
     let a = c.args in
-    let d = run_due_is a.state.now a.input.now a.output.now a.saved.now c.first-due-2.ensures c.first-due.ensures c.is_short-short.ensures l.ensures.1 in
-    (l.ensures.2, roomy _ _ (answer_room_lem a.state.now a.input.now a.output.now (run_due a.state.now a.input.now a.output.now a.saved.now (sym d ∙ c.if-due-eq0.true)).1))
+    rw c.refused.ensures (small_place a.state.now a.input.now a.output.now a.saved.now (lt-ltb _ _ c.if-saved-lt-PLACE_ROOM.true))
 
-pub returns-then-due-eq0 : goal.returns-then-due-eq0
-returns-then-due-eq0 c =
-    let l = c.load-p in
+pub returns-in-Ok : goal.returns-in-Ok
+returns-in-Ok c =
     let a = c.args in
-    let d = run_due_is a.state.now a.input.now a.output.now a.saved.now c.first-due-2.ensures c.first-due.ensures c.is_short-short.ensures l.ensures.1 in
-    let w = c.with_effects.ensures in
-    let s = c.save-s.ensures in
-    run_done a.state.now a.input.now a.output.now a.saved.now c.read_all-q.result _ _ (sym d ∙ c.if-due-eq0.true)
-    (rw l.ensures.0 at c.read_all-q.ensures) (rw w at s.0) (rw w at s.1) c.saved_count.ensures
+    let s = c.save_in.ensures in
+    run_done a.state.now a.input.now a.output.now a.saved.now (le-ltb _ _ c.if-saved-lt-PLACE_ROOM.false) c.in-Ok.ensures
+    (c.unwrap_or.ensures ∙ (or_0 c.save_in.result ∙ ap count_of s.0)) s.1
+
+pub returns-in-Err : goal.returns-in-Err
+returns-in-Err c =
+    let a = c.args in
+    rw c.refused-in-Err.ensures (run_refused a.state.now a.input.now a.output.now a.saved.now (le-ltb _ _ c.if-saved-lt-PLACE_ROOM.false) c.in-Err.ensures)

@@ -1,19 +1,48 @@
 -- Pattern after pattern.
-use Prim.Native.Nat.{ℕ}
-use Rattle.envelope.specs.declared.Best.{Best}
-use Rattle.governing.specs.Ways.{eight_of}
-use Rattle.governing.proofs.Peaks.{peak_first, peak_more}
+use Prim.Native.Nat.{ℕ, ◌-◌, ◌<◌}
+use native.Mathlib.Omega.{arith}
+use mathlib.Core.Bool.{cond}
+use mathlib.Core.Path.{◌≡◌, ◌∙◌, sym, ap, subst}
+use Rattle.integers.proofs.Sums.{ltb_cases}
+use Rattle.envelope.specs.declared.Sign.TheVariants.{Plus}
+use Rattle.envelope.specs.Envelope.{peak_of}
+use Rattle.sums.specs.Directions.{held_in}
+use Rattle.sums.proofs.Arrays.{held_got}
+use Rattle.directions.specs.Four.{direction_of}
+use Rattle.governing.specs.Ways.{toward_of, Ready, eight_of}
+use Rattle.governing.proofs.Peaks.{peak_first, peak_next}
 use Rattle.governing.proofs.highest.Goals as goal
+
+below_four : (i : ℕ) → i < 8 → direction_of i < 4
+below_four i l = ltb_cases i 4 (λ t. cond t i (7 - i) < 4) (λ m. m) (λ m. omega arith)
+
+pub toward-requires : goal.toward-requires
+toward-requires c =
+    (subst Ready (held_got c.args.sums.now 0 c.index-sums-0.result (omega arith)) (c.requires.0 0 (omega arith)), c.requires.1)
+
+pub loop-pattern-init : goal.loop-pattern-init
+loop-pattern-init c =
+    peak_first (eight_of c.args.settings (held_in c.args.sums.now)) c.toward.result
+    (c.toward.ensures ∙ ap (λ (held : ℕ → ℕ → ℕ). toward_of c.args.settings held Plus) (sym (held_got c.args.sums.now 0 c.index-sums-0.result (omega arith))))
+
+pub toward-requires-in-loop-pattern : goal.toward-requires-in-loop-pattern
+toward-requires-in-loop-pattern c =
+    let d = c.way_of-direction.result.0 in
+    let l : d < 4 = omega (arith, c.way_of-direction.ensures.direction, below_four c.loop-pattern.pattern (omega arith)) in
+    (subst Ready (held_got c.args.sums.now d c.index-sums-direction.result (omega arith)) (c.requires.0 d l), c.requires.1)
+
+pub loop-pattern-preserved : goal.loop-pattern-preserved
+loop-pattern-preserved c =
+    let sums = c.args.sums.now in
+    let way = c.way_of-direction in
+    let l : way.result.0 < 4 = omega (arith, way.ensures.direction, below_four c.loop-pattern.pattern (omega arith)) in
+    peak_next (eight_of c.args.settings (held_in sums)) c.loop-pattern.pattern (omega arith) c.loop-pattern.invariant
+    (c.toward-in-loop-pattern.ensures
+    ∙ ap (λ (held : ℕ → ℕ → ℕ). toward_of c.args.settings held way.result.1) (sym (held_got sums way.result.0 c.index-sums-direction.result (omega arith)))
+    ∙ (λ i. toward_of c.args.settings (held_in sums (way.ensures.direction i)) (way.ensures.sign i)))
+    c.higher-peak.ensures
 
 pub returns : goal.returns
 returns c =
-    let a = c.args in
-    let b : ℕ → Best = eight_of a.s a.s0.now a.s1.now a.s2.now a.s3.now in
-    let q0 = peak_first b c.toward-best.result c.toward-best.ensures in
-    let q1 = peak_more b 0 q0 c.toward.ensures c.higher-q1.ensures in
-    let q2 = peak_more b 1 q1 c.toward-2.ensures c.higher-q2.ensures in
-    let q3 = peak_more b 2 q2 c.toward-3.ensures c.higher-q3.ensures in
-    let q4 = peak_more b 3 q3 c.toward-4.ensures c.higher-q4.ensures in
-    let q5 = peak_more b 4 q4 c.toward-5.ensures c.higher-q5.ensures in
-    let q6 = peak_more b 5 q5 c.toward-6.ensures c.higher-q6.ensures in
-    peak_more b 6 q6 c.toward-7.ensures c.higher.ensures
+    subst (λ (i : ℕ). c.loop-pattern.peak ≡ peak_of (eight_of c.args.settings (held_in c.args.sums.now)) (i - 1)) {x = c.loop-pattern.pattern} {y = 8} (omega arith)
+    c.loop-pattern.invariant

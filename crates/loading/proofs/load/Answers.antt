@@ -1,25 +1,30 @@
--- `loading::load` meets its contract: a fresh sheet is in range, and one answer has room.
-use Prim.Native.Nat.{ℕ}
-use mathlib.Core.Bool.{false}
-use native.Mathlib.Omega.{arith}
-use lib.ListN.{replicate}
-use Rattle.sheet.proofs.Kept.{fresh_kept}
-use Rattle.sheet.proofs.Parts.{fresh_whole}
-use Rattle.loading.specs.Loop.{Room}
-use Rattle.loading.proofs.Loaded.{load_is}
-use Rattle.answers.specs.Answers.{answer_room}
+-- Each field is read on the sheet that the one before left, and the first refusal is kept.
+use Rattle.std.proofs.Common.{rules, arith, ◌<◌, ◌∙◌, ap, length, length-drop, ℕ, Option}
+use Rattle.std.specs.Option.{option_or}
+use Rattle.headers.proofs.Whole.{part_from, consumed_some}
+use Rattle.loading.proofs.States.{going_start, going_next, going_end, read_further}
 use Rattle.loading.proofs.load.Goals as goal
 
-small : (n : ℕ) → Room false 0 n answer_room
-unfolding Room
-small n = omega arith
+pub loop-left-init : goal.loop-left-init
+loop-left-init c = (going_start c.args.state.now c.requires, search rules)
 
-pub read_all-requires : goal.read_all-requires
-read_all-requires c =
-    let e = fresh_whole _ c.fresh-rest.ensures c.fresh_settings.ensures c.requires.0 c.requires.1 in
-    (rw e fresh_kept, small _)
+pub loop-left-smaller : goal.loop-left-smaller
+loop-left-smaller c =
+    let l = c.loop-left in
+    let g : 0 < length l.left.now = search rules in
+    let k = read_further l.invariant.1 c.read_in-r.ensures.0 in
+    let s = consumed_some l.left.now g in
+    rw (part_from, length-drop) (omega arith)
 
-pub returns : goal.returns
-returns c =
-    let e = fresh_whole _ c.fresh-rest.ensures c.fresh_settings.ensures c.requires.0 c.requires.1 in
-    load_is c.args.state.now c.read_all.result _ _ (replicate answer_room 0) (rw e at c.read_all.ensures)
+pub loop-left-preserved : goal.loop-left-preserved
+loop-left-preserved c =
+    let l = c.loop-left in
+    let g : 0 < length l.left.now = search rules in
+    let e = c.or-refusal.ensures ∙ ap (λ (n : Option ℕ). option_or l.refusal n) c.refusal_of.ensures in
+    (rw part_from (going_next l.invariant.0 g l.invariant.1 c.read_in-r.ensures.0 e), search rules)
+
+pub returns-clause-sheet : goal.returns-clause-sheet
+returns-clause-sheet c = (going_end c.loop-left.invariant.0 (search rules)).0
+
+pub returns-clause-refusal : goal.returns-clause-refusal
+returns-clause-refusal c = (going_end c.loop-left.invariant.0 (search rules)).1

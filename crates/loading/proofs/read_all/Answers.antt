@@ -1,13 +1,31 @@
--- `loading::read_all` meets its contract: the loop takes the steps of its fields.
-use Rattle.loading.proofs.Loop.{going_reached, going_next, going_end}
+-- Each field is read on the sheet that the one before left, and its answer is put after the others.
+use Rattle.std.proofs.Common.{rules, arith, ◌<◌, length, length-drop}
+use Rattle.headers.proofs.Whole.{part_from, consumed_some}
+use Rattle.lists.proofs.Placed.{read_put}
+use Rattle.loading.proofs.Lists.{going_room, going_next, going_end}
 use Rattle.loading.proofs.read_all.Goals as goal
 
-pub step-p-requires : goal.step-p-requires
-step-p-requires c = going_reached c.loop-p.invariant c.loop-p-test.true
+pub loop-left-smaller : goal.loop-left-smaller
+loop-left-smaller c =
+    let l = c.loop-left in
+    let g : 0 < length l.left.now = search rules in
+    let x = read_put l.left.now l.output l.written l.sheet (going_room l.invariant g) c.read_in-r.ensures.0 in
+    let k = x.consumed in
+    let s = consumed_some l.left.now g in
+    rw (part_from, length-drop) (omega arith)
 
-pub loop-p-preserved : goal.loop-p-preserved
-loop-p-preserved c =
-    going_next c.loop-p.invariant c.loop-p-test.true c.step-p.ensures
+pub loop-left-preserved : goal.loop-left-preserved
+loop-left-preserved c =
+    let l = c.loop-left in
+    let g : 0 < length l.left.now = search rules in
+    let x = read_put l.left.now l.output l.written l.sheet (going_room l.invariant g) c.read_in-r.ensures.0 in
+    rw part_from (going_next l.invariant g x)
 
-pub returns : goal.returns
-returns c = going_end c.loop-p.invariant c.loop-p-test.false
+pub returns-clause-sheet : goal.returns-clause-sheet
+returns-clause-sheet c = (going_end c.loop-left.invariant c.requires.room (search rules)).sheet
+
+pub returns-clause-written : goal.returns-clause-written
+returns-clause-written c = (going_end c.loop-left.invariant c.requires.room (search rules)).count
+
+pub returns-clause-output : goal.returns-clause-output
+returns-clause-output c = (going_end c.loop-left.invariant c.requires.room (search rules)).output

@@ -1,12 +1,10 @@
--- `loading::read_all` meets its contract: the loop takes the steps of its fields.
-use Prim.Native.Nat.{◌-◌}
-use lib.ListN.{length}
-use Rattle.loading.specs.Loop.{state_of}
-use Rattle.loading.proofs.Loop.{Going}
+-- The fields of the bytes left lead where those of the input lead.
+use Rattle.std.proofs.Common.{length}
+use Rattle.loading.proofs.Lists.{Going}
 use Rattle.loading.proofs.read_all.Given as goal
 
-abbrev pub invariant-loop-p : goal.invariant-loop-p
-invariant-loop-p l = Going l.keep l.input (state_of l.initial.p l.initial.effects l.initial.sums l.initial.output) l.p l.effects l.sums l.output
+abbrev pub invariant-loop-left : goal.invariant-loop-left
+invariant-loop-left l = Going l.input l.left l.initial.sheet l.sheet l.initial.output l.output l.written
 
-abbrev pub decreases-loop-p : goal.decreases-loop-p
-decreases-loop-p l = length l.input - l.p.consumed
+abbrev pub decreases-loop-left : goal.decreases-loop-left
+decreases-loop-left l = length l.left

@@ -1,4 +1,4 @@
--- Each weight is the product of the two other capacities, which fits, with the sign of its bit.
+-- Each weight is the product of the two other capacities, with the sign of its bit.
 use Prim.Native.Nat.{ℕ, ◌*◌, ◌%◌}
 use native.Mathlib.Nat.{div-one}
 use mathlib.Core.Path.{sym, ap, ◌∙◌}
@@ -11,8 +11,8 @@ pub returns : goal.returns
 unfolding pattern_of
 returns c =
     let a = c.args in
-    let n = read c.signed_by.result c.signed_by.type_inv ∙ c.signed_by.ensures
+    let n = read c.signed_product.result c.signed_product.type_inv ∙ c.signed_product.ensures
     ∙ sym (ap (λ (x : ℕ). signed_by (eqb (x % 2) 1) (a.p.y * a.p.z)) (div-one a.pattern)) in
-    let y = read c.signed_by-2.result c.signed_by-2.type_inv ∙ c.signed_by-2.ensures in
-    let z = read c.signed_by-3.result c.signed_by-3.type_inv ∙ c.signed_by-3.ensures in
+    let y = read c.signed_product-2.result c.signed_product-2.type_inv ∙ c.signed_product-2.ensures in
+    let z = read c.signed_product-3.result c.signed_product-3.type_inv ∙ c.signed_product-3.ensures in
     λ i. record { n = n i; y = y i; z = z i }

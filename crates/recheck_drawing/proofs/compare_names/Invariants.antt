@@ -1,9 +1,6 @@
--- The place lies within the file; the measure is what is left.
-use Rattle.std.proofs.Common.{◌-◌, ◌≤◌, length}
+-- The place lies within the file.
+use Rattle.std.proofs.Common.{◌≤◌, length}
 use Rattle.recheck_drawing.proofs.compare_names.Given as goal
 
-abbrev pub invariant-loop-i : goal.invariant-loop-i
-invariant-loop-i l = l.at ≤ length l.stored
-
-abbrev pub decreases-loop-i : goal.decreases-loop-i
-decreases-loop-i l = length l.stored - l.i
+abbrev pub invariant-loop-field : goal.invariant-loop-field
+invariant-loop-field l = l.at ≤ length l.stored

@@ -1,10 +1,9 @@
--- The places stay within the file and its answers; the measure is what is left.
-use Rattle.std.proofs.Common.{◌-◌, length}
-use Rattle.recheck_files.specs.Places.{Within}
+-- What is left of the file and of its answers is no longer than they are; the measure is what is left.
+use Rattle.std.proofs.Common.{◌≤◌, length}
 use Rattle.recheck_files.proofs.answers_agree.Given as goal
 
-abbrev pub invariant-loop-i : goal.invariant-loop-i
-invariant-loop-i l = Within l.p l.file l.answers
+abbrev pub invariant-loop-fields : goal.invariant-loop-fields
+invariant-loop-fields l = (length l.fields ≤ length l.file) × (length l.rest ≤ length l.answers)
 
-abbrev pub decreases-loop-i : goal.decreases-loop-i
-decreases-loop-i l = length l.answers - l.i
+abbrev pub decreases-loop-fields : goal.decreases-loop-fields
+decreases-loop-fields l = length l.rest

@@ -4,19 +4,23 @@ use Rattle.recheck_names.specs.Names.{field_place, last_name}
 use Rattle.recheck_names.proofs.Walk.{place_more, name_more, name_ended}
 use Rattle.recheck_names.proofs.last_name.Goals as goal
 
-pub loop-i-init : goal.loop-i-init
+pub loop-field-init : goal.loop-field-init
 unfolding field_place last_name
-loop-i-init c = (omega arith, omega arith, refl, c.no_name-found.ensures)
+loop-field-init c = record { in_file = omega arith; place = refl; last = refl }
 
 pub returns-then-not-is_whole : goal.returns-then-not-is_whole
 returns-then-not-is_whole c =
-    let l = c.loop-i in
+    let l = c.loop-field in
     let a = c.args in
-    name_ended a.file.now a.case l.i _ l.invariant.0 l.invariant.2 (sym c.is_whole.ensures ∙ c.if-not-is_whole.true) l.invariant.3
+    name_ended a.file.now a.case l._field _ (omega arith) l.invariant.place (sym c.is_whole.ensures ∙ c.if-not-is_whole.true) l.invariant.last
 
-pub loop-i-preserved : goal.loop-i-preserved
-loop-i-preserved c =
-    let l = c.loop-i in
+pub loop-field-preserved : goal.loop-field-preserved
+loop-field-preserved c =
+    let l = c.loop-field in
     let a = c.args in
-    let n = c.after_field-at.ensures in
-    (omega arith, n.to, place_more a.file.now l.i l.invariant.2 n.place, name_more a.file.now a.case l.i l.invariant.2 l.invariant.3 c.name_here-found.ensures)
+    let next = c.after-at.ensures in
+    record {
+      in_file = next.to;
+      place = place_more a.file.now l._field l.invariant.place next.place;
+      last = name_more a.file.now a.case l._field l.invariant.place l.invariant.last c.name_here.ensures c.or-found.ensures;
+    }

@@ -5,21 +5,26 @@ use Rattle.recheck_names.proofs.Walk.{place_more}
 use Rattle.recheck_names.proofs.Without.{kept_more, all_kept}
 use Rattle.recheck_names.proofs.without_names.Goals as goal
 
-pub loop-i-init : goal.loop-i-init
+pub loop-field-init : goal.loop-field-init
 unfolding field_place kept_up_to
-loop-i-init c = (omega arith, omega arith, omega arith, refl, refl)
+loop-field-init c = record { in_file = omega arith; no_further = omega arith; place = refl; kept = refl }
 
-pub loop-i-preserved : goal.loop-i-preserved
-loop-i-preserved c =
-    let l = c.loop-i in
+pub loop-field-preserved : goal.loop-field-preserved
+loop-field-preserved c =
+    let l = c.loop-field in
     let a = c.args in
-    let n = c.after_field-at.ensures in
+    let next = c.after-at.ensures in
     let k = c.keep-to.ensures in
-    (omega arith, n.to, rw n.place k.upper_bound, place_more a.file.now l.i l.invariant.3 n.place, kept_more a.file.now a.refused l.i l.invariant.3 l.invariant.4 k.kept)
+    record {
+      in_file = next.to;
+      no_further = rw next.place k.upper_bound;
+      place = place_more a.file.now l._field l.invariant.place next.place;
+      kept = kept_more a.file.now a.refused l._field l.invariant.place l.invariant.kept k.kept;
+    }
 
 pub returns-clause-out_after : goal.returns-clause-out_after
 returns-clause-out_after c =
-    let l = c.loop-i in
+    let l = c.loop-field in
     let a = c.args in
-    let e : l.i ≡ length a.file.now = omega arith in
-    all_kept a.file.now a.refused l.i e l.invariant.3 l.invariant.4 c.put.ensures
+    let e : l._field ≡ length a.file.now = omega arith in
+    all_kept a.file.now a.refused l._field e l.invariant.place l.invariant.kept c.put.ensures

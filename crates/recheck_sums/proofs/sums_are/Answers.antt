@@ -1,17 +1,12 @@
--- One number more is one test more.
-use Rattle.std.proofs.Common.{◌≡◌, ℕ, ◌+◌, Bool, ◌&&◌, nat_eq, List, get_or, ℤ, pos, refl, add-one, w64, of_z, arith, rules}
-use Rattle.recheck_sums.specs.Sums.{same_up_to}
+-- `==` of two lists of numbers decides whether they are equal.
+use Rattle.std.proofs.Common.{◌≡◌, Decides, ℤ}
+use Rattle.std.proofs.lemmas.Bool.Decides.{Decides-int_eq}
+use Rattle.std.proofs.lemmas.Slice.Eq.{slice_eq-Decides}
+use Rattle.std.specs.Ordering.{int_eq}
 use Rattle.recheck_sums.proofs.sums_are.Goals as goal
 
-more : (due : List ℕ) (sums : List ℤ) (i : ℕ) {b : Bool} {x : ℕ} → b ≡ same_up_to due sums i → x ≡ of_z w64 (get_or sums i (pos 0)) → b && nat_eq x (get_or due i 0) ≡ same_up_to due sums (i + 1)
-unfolding same_up_to
-more due sums i p q = rw (add-one, p, q)
-
-pub loop-i-init : goal.loop-i-init
-unfolding same_up_to
-loop-i-init c = (omega arith, refl)
-
-pub loop-i-preserved : goal.loop-i-preserved
-loop-i-preserved c =
-    let l = c.loop-i in
-    (omega arith, more c.args.due.now c.args.sums.now l.i l.invariant.1 (search rules))
+pub returns : goal.returns
+returns c =
+    let sums = c.args.sums.now in
+    let d : Decides c.eq.result (sums ≡ c.as_slice.result.now) = slice_eq-Decides {A = ℤ} {E = int_eq} Decides-int_eq sums c.as_slice.result.now c.eq.result c.eq.ensures in
+    rw c.as_slice.ensures at d

@@ -1,9 +1,9 @@
--- The next field begins within the list, which stays as long as it is; each turn leaves fewer turns.
-use Rattle.std.proofs.Common.{◌≡◌, ◌≤◌, length}
+-- The next field begins within the list, which stays as long as it is; the measure is what is left.
+use Rattle.std.proofs.Common.{◌≡◌, length, ◌-◌, ◌≤◌}
 use Rattle.recheck_two_lists.proofs.change_all.Given as goal
 
-abbrev pub invariant-loop-left : goal.invariant-loop-left
-invariant-loop-left l = (l.start ≤ length l.list) × (length l.list ≡ length l.initial.list)
+abbrev pub invariant-loop-start : goal.invariant-loop-start
+invariant-loop-start l = (l.start ≤ length l.list) × (length l.list ≡ length l.initial.list)
 
-abbrev pub decreases-loop-left : goal.decreases-loop-left
-decreases-loop-left l = l.left
+abbrev pub decreases-loop-start : goal.decreases-loop-start
+decreases-loop-start l = length l.initial.list - l.start

@@ -1,16 +1,24 @@
--- `stream::answer_all` meets its contract: the loop answers the fields that are answered now.
-use mathlib.Core.Path.{refl}
-use Rattle.stream.proofs.Going.{going_start, going_next, going_fewer}
+-- The loop answers the fields that are answered now.
+use Rattle.std.proofs.Common.{arith}
+use Rattle.stream.proofs.Going.{going_start, going_room, going_next, going_fewer, going_end}
 use Rattle.stream.proofs.answer_all.Goals as goal
 
-pub loop-p-init : goal.loop-p-init
-loop-p-init c =
-    going_start _ _ _ _ _ _ refl refl refl c.requires.0 c.requires.1
+pub loop-sheet-init : goal.loop-sheet-init
+loop-sheet-init c = going_start _ _ _ _ c.requires.0 c.requires.1
 
-pub loop-p-smaller : goal.loop-p-smaller
-loop-p-smaller c =
-    going_fewer c.loop-p.invariant c.loop-p-test.true c.step-p.ensures
+pub goes_on-requires : goal.goes_on-requires
+goes_on-requires c =
+    let w = c.loop-sheet.invariant.within in
+    (w.consumed, omega (arith, w.same, w.written))
 
-pub loop-p-preserved : goal.loop-p-preserved
-loop-p-preserved c =
-    going_next c.loop-p.invariant c.loop-p-test.true c.step-p.ensures
+pub answer-p-requires : goal.answer-p-requires
+answer-p-requires c = going_room c.loop-sheet.invariant c.goes_on.ensures c.loop-sheet-test.true
+
+pub loop-sheet-smaller : goal.loop-sheet-smaller
+loop-sheet-smaller c = going_fewer c.loop-sheet.invariant c.goes_on.ensures c.loop-sheet-test.true c.answer-p.ensures
+
+pub loop-sheet-preserved : goal.loop-sheet-preserved
+loop-sheet-preserved c = going_next c.loop-sheet.invariant c.goes_on.ensures c.loop-sheet-test.true c.answer-p.ensures
+
+pub returns-clause-progressed : goal.returns-clause-progressed
+returns-clause-progressed c = going_end c.loop-sheet.invariant c.goes_on.ensures c.loop-sheet-test.false

@@ -1,79 +1,91 @@
--- The loop walks over the set: what the members passed make is held.
-use Prim.Native.Nat.{ℕ, ◌+◌, ◌*◌, ◌<◌, ◌^◌}
+-- The loop walks over the set: in each direction what the members passed make is held.
+use Prim.Native.Nat.{ℕ, ◌+◌, ◌*◌, ◌-◌, ◌<◌, ◌^◌}
 use native.Mathlib.Omega.{arith}
 use mathlib.Core.Bool.{Bool}
-use mathlib.Core.Path.{◌≡◌, refl, ◌∙◌, subst}
+use mathlib.Core.Path.{◌≡◌, refl, sym, ◌∙◌, subst}
 use lib.IntN.{ℤ}
-use lib.Signed.{mag}
-use mir.Syntax.{w16, w64}
-use mir.Val.{to_z, of_z, SFits}
-use mir.ValLaws.{to_z-of_z}
+use lib.ListN.{get_or, replicate}
+use Rattle.std.proofs.lemmas.List.{get_or-replicate}
+use Rattle.integers.specs.declared.Members.{Members}
 use Rattle.integers.specs.Sets.{has, Lowest}
-use Rattle.integers.proofs.Machine.{read}
-use Rattle.integers.proofs.Walks.{Walk, Met, taken_away, walk_from, walk_meets, walk_end}
+use Rattle.integers.proofs.Walks.{Walk, Met, walk_from, walk_meets, walk_end}
 use Rattle.standard.specs.Combination.{case_count}
 use Rattle.envelope.specs.Range.{effect_of}
 use Rattle.sums.specs.declared.Sides.{Sides}
-use Rattle.sums.specs.Sums.{sides_in, sides_with}
+use Rattle.sums.specs.Sums.{nothing, sides_in, sides_with}
 use Rattle.sums.proofs.Held.{no_sides, sides_skip, sides_join, sides_room}
 use Rattle.sums.proofs.sides_of.Goals as goal
-
--- a member is a case
-inside : {p : ℕ → Bool} {F : ℕ → Sides} {rest k : ℕ} {s : Sides} → Walk p case_count F rest s → Lowest rest k → k < case_count
-inside {p} {rest = rest} {k = k} {s = s} w =
-    let walk : Walk p case_count (λ _. s) rest s = record { upto = w.upto; inside = w.inside; left = w.left; gathered = refl } in
-    λ low. (walk_meets p case_count (λ _. s) (λ _ _ _. refl) rest k s walk low).inside
 
 -- at a member
 met : (compared : Bool) (set : ℕ) (e : ℕ → ℤ) {rest k : ℕ} {s : Sides} →
     Walk (has set) case_count (sides_in compared (has set) e) rest s → Lowest rest k → Met (has set) case_count (sides_in compared (has set) e) rest k s
 met compared set e {rest} {k} {s} = walk_meets (has set) case_count (sides_in compared (has set) e) (sides_skip compared (has set) e) rest k s
 
--- what is widened of an effect is the effect
-widened : (x : ℤ) {r : ℤ} → mag r < 2 ^ 63 → r ≡ to_z w16 (of_z w16 x) → SFits w16 x → to_z w64 (of_z w64 r) ≡ x
-widened x {r} h e fits = read r h ∙ e ∙ to_z-of_z w16 x fits
+-- a member is a case
+case_met : (set : ℕ) {rest k : ℕ} → Walk {A = Unit {0}} (has set) case_count (λ _. tt) rest tt → Lowest rest k → Met {A = Unit {0}} (has set) case_count (λ _. tt) rest k tt
+case_met set {rest} {k} = walk_meets (has set) case_count (λ _. tt) (λ _ _ _. refl) rest k tt
 
-pub loop-rest-init : goal.loop-rest-init
-loop-rest-init c =
-    let e : ℕ → ℤ = λ k. effect_of c.args.effects.now k c.args.component in
-    walk_from case_count c.args.set (sides_in c.args.compared (has c.args.set) e) _ c.requires.0 (no_sides c.args.compared (has c.args.set) e)
+left : (k : ℕ) {rest new : ℕ} → new + 2 ^ k ≡ rest → rest - 2 ^ k ≡ new
+left k e = omega arith
 
-pub overflow_mul-at : goal.overflow_mul-at
-overflow_mul-at c = omega (arith, inside c.loop-rest.invariant c.lowest-k.ensures)
+pub loop-k-init : goal.loop-k-init
+loop-k-init g c =
+    let set = c.args.set in
+    let taken = sym c.into_iter-k-iterator.ensures.into_iter_gives in
+    record {
+      cases = subst (λ (m : Members). Walk {A = Unit {0}} (has set) case_count (λ _. tt) m.0 tt) taken (walk_from case_count set (λ _. tt) tt c.requires.cases refl);
+      made = λ d l.
+          let e : ℕ → ℤ = g.R.Reading.along c.args.reading (effect_of c.args.effects.all.now) d in
+          let made = sides_in c.args.compared (has set) e in
+          let none = get_or-replicate g.row.N d c.nothing-sides.result nothing l ∙ c.nothing-sides.ensures ∙ no_sides c.args.compared (has set) e in
+          subst (λ (m : Members). Walk (has set) case_count made m.0 (get_or (replicate g.row.N c.nothing-sides.result) d nothing)) taken
+          (walk_from case_count set made _ c.requires.cases none);
+    }
 
-pub overflow_add-at : goal.overflow_add-at
-overflow_add-at c = omega (arith, inside c.loop-rest.invariant c.lowest-k.ensures, c.requires.2)
+pub of_case-requires : goal.of_case-requires
+of_case-requires g c =
+    let fits : g.row.N * 8 < 2 ^ 63 = omega (arith, c.requires.fits) in
+    (fits, (case_met c.args.set c.loop-k.invariant.cases c.in-Some.ensures.steps.0).inside)
 
-pub offset_bounds-effects-at : goal.offset_bounds-effects-at
-offset_bounds-effects-at c = omega (arith, inside c.loop-rest.invariant c.lowest-k.ensures, c.requires.2)
+pub with_case-sides-requires : goal.with_case-sides-requires
+with_case-sides-requires g c =
+    let fits : g.row.N * 8 < 2 ^ 63 = omega (arith, c.requires.fits) in (
+      c.requires.fits,
+      (
+        fits,
+        λ d l.
+            let e : ℕ → ℤ = g.R.Reading.along c.args.reading (effect_of c.args.effects.all.now) d in
+            let m = met c.args.compared c.args.set e (c.loop-k.invariant.made d l) c.in-Some.ensures.steps.0 in
+            rw (c.of_case.ensures d l, m.gathered)
+            (sides_room c.args.compared (has c.args.set) e
+            (c.requires.small d) c.in-Some.k m.inside),
+      ),
+    )
 
-pub bounds-effects-at : goal.bounds-effects-at
-bounds-effects-at c = omega (arith, inside c.loop-rest.invariant c.lowest-k.ensures, c.requires.1.long, c.requires.2)
-
-pub with_effect-s-requires : goal.with_effect-s-requires
-with_effect-s-requires c =
-    let e : ℕ → ℤ = λ k. effect_of c.args.effects.now k c.args.component in
-    let m = met c.args.compared c.args.set e c.loop-rest.invariant c.lowest-k.ensures in
-    let told = widened (e c.lowest-k.result) c.widen-x.type_inv c.widen-x.ensures (record { sfits = c.widen-arg-1.given }) in
-    rw (told, m.gathered)
-    (sides_room c.args.compared (has c.args.set) e (λ k. omega (arith, c.requires.1.range (k * 3 + c.args.component))) c.lowest-k.result m.inside)
-
-pub loop-rest-preserved : goal.loop-rest-preserved
-loop-rest-preserved c =
-    let e : ℕ → ℤ = λ k. effect_of c.args.effects.now k c.args.component in
-    let m = met c.args.compared c.args.set e c.loop-rest.invariant c.lowest-k.ensures in
-    let told = widened (e c.lowest-k.result) c.widen-x.type_inv c.widen-x.ensures (record { sfits = c.widen-arg-1.given }) in
-    subst (λ (r : ℕ). Walk (has c.args.set) case_count (sides_in c.args.compared (has c.args.set) e) r c.with_effect-s.result)
-    (taken_away c.loop-rest.rest c.lowest-k.result c.without_lowest-rest.result c.lowest-k.ensures c.without_lowest-rest.ensures)
-    (m.after c.with_effect-s.result
-    (c.with_effect-s.ensures
-    ∙ (λ i. sides_with c.args.compared (m.gathered i) (told i))
-    ∙ sides_join c.args.compared (has c.args.set) e c.lowest-k.result m.member))
+pub loop-k-preserved : goal.loop-k-preserved
+loop-k-preserved g c =
+    let set = c.args.set in
+    let low = c.in-Some.ensures.steps.0 in
+    let rest = left c.in-Some.k c.in-Some.ensures.steps.1 in
+    record {
+      cases = subst (λ (r : ℕ). Walk {A = Unit {0}} (has set) case_count (λ _. tt) r tt) rest ((case_met c.args.set c.loop-k.invariant.cases low).after tt refl);
+      made = λ d l.
+          let e : ℕ → ℤ = g.R.Reading.along c.args.reading (effect_of c.args.effects.all.now) d in
+          let made = sides_in c.args.compared (has set) e in
+          let m = met c.args.compared set e (c.loop-k.invariant.made d l) low in
+          let s = get_or c.with_case-sides.result d nothing in
+          subst (λ (r : ℕ). Walk (has set) case_count made r s) rest
+          (m.after s
+          (c.with_case-sides.ensures d l
+          ∙ (λ i. sides_with c.args.compared (m.gathered i) (c.of_case.ensures d l i))
+          ∙ sides_join c.args.compared (has set) e c.in-Some.k m.member));
+    }
 
 pub returns : goal.returns
-returns c =
-    let e : ℕ → ℤ = λ k. effect_of c.args.effects.now k c.args.component in
-    let made = sides_in c.args.compared (has c.args.set) e in
-    let none : c.loop-rest.rest ≡ 0 = omega arith in
-    walk_end (has c.args.set) case_count made (sides_skip c.args.compared (has c.args.set) e) c.loop-rest.s
-    (subst (λ (r : ℕ). Walk (has c.args.set) case_count made r c.loop-rest.s) none c.loop-rest.invariant)
+returns g c = λ d l.
+    let set = c.args.set in
+    let e : ℕ → ℤ = g.R.Reading.along c.args.reading (effect_of c.args.effects.all.now) d in
+    let made = sides_in c.args.compared (has set) e in
+    let s = get_or c.loop-k.sides d nothing in
+    walk_end (has set) case_count made (sides_skip c.args.compared (has set) e) s
+    (subst (λ (r : ℕ). Walk (has set) case_count made r s) c.in-None.ensures.steps.0 (c.loop-k.invariant.made d l))

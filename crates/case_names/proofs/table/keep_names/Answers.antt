@@ -1,9 +1,18 @@
--- The name of one more case is kept.
-use Rattle.case_names.proofs.Keeping.{name_short, keeping_next}
+-- A name found takes the place of the one before, and where none is found that one stays.
+use Rattle.std.proofs.Common.{sym, ◌∙◌, arith}
+use Rattle.case_names.proofs.Keeping.{keeping_found, keeping_kept, name_short}
 use Rattle.case_names.proofs.table.keep_names.Goals as goal
+use Rattle.case_names.proofs.table.keep_names.Goals.{then-not-is_empty, else-not-is_empty}
 
-pub keep_name-requires : goal.keep_name-requires
-keep_name-requires c = (c.loop-case-test.true, rw c.case_name-name.ensures (name_short c.args.part.now c.loop-case.case), c.loop-case.invariant.fits)
+pub push-requires : goal.push-requires
+push-requires c =
+    let short = name_short c.args.part.now c.loop-case.case in
+    (omega arith, rw (c.clear.ensures, c.case_name-found.ensures) (omega arith))
 
 pub loop-case-preserved : goal.loop-case-preserved
-loop-case-preserved c = keeping_next c.loop-case.invariant c.loop-case-test.true c.case_name-name.ensures c.keep_name.ensures
+loop-case-preserved c =
+    let h = c.loop-case.invariant in
+    elim c.if-not-is_empty.branch [
+      | then-not-is_empty w ↦ rw w.names-is (keeping_found h c.loop-case-test.true c.case_name-found.ensures (sym c.is_empty.ensures ∙ w.if-not-is_empty.true) (rw w.clear.ensures at w.push.ensures))
+      | else-not-is_empty w ↦ rw w.names-is (keeping_kept h c.loop-case-test.true c.case_name-found.ensures (sym c.is_empty.ensures ∙ w.if-not-is_empty.false) _)
+    ]

@@ -1,0 +1,6 @@
+-- Each station has put 11 bytes at most.
+use Rattle.std.proofs.Common.{◌+◌, ◌*◌, ◌≤◌, length}
+use Rattle.recheck_saving.proofs.SavedForm.put_place.Given as goal
+
+abbrev pub invariant-loop-station : goal.invariant-loop-station
+invariant-loop-station l = l.self.count ≤ l.initial.self.count + 11 * length l.yielded

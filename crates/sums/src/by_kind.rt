@@ -1,0 +1,57 @@
+ghost use Rattle.std.specs.Prelude.{◌≡◌, ℕ, ◌<◌, ◌+ℤ◌, pos, neg_ℤ};
+ghost use Rattle.standard.specs.Kinds.{kind_count, number_of};
+ghost use Rattle.envelope.specs.Signs.{over, under};
+ghost use Rattle.sums.specs.Sums.{SidesInRange, SidesAtMost, sum_most, held_at, SumsInRange, KindPut, fluid_acts};
+
+use crate::{FLUID, Sides};
+use envelope::Sign;
+use standard::{KINDS, Kind};
+
+// The sums of each kind on one effect: above zero, and below without its sign.
+#[derive(Clone, Copy)]
+pub struct Sums {
+    pub by_kind: [[u64; 2]; KINDS],
+    pub ghost in_range: { SumsInRange by_kind },
+}
+
+impl Sums {
+    // No case is summed.
+    pub fn new() -> Self {
+        Sums {
+            by_kind: [[0, 0]; KINDS],
+        }
+    }
+
+    // The sides of a kind in place of what was held of it.
+    pub(crate) fn put(&mut self, kind: usize, sides: Sides)
+        requires { (kind < kind_count) × SidesInRange sides × SidesAtMost sides sum_most }
+        ensures { KindPut (held_at self.old.by_kind) (held_at self.new.by_kind) kind sides }
+    {
+        // Stays: `as`, since with `unsigned_abs` a utilisation takes 9 % more instructions.
+        self.by_kind[kind] = [sides.above as u64, (-sides.below) as u64];
+    }
+
+    // What is held of a kind on a side: 0 above zero, 1 below.
+    pub fn held(&self, kind: Kind, side: usize) -> i64
+        requires { side < 2 }
+        ensures { result ≡ pos (held_at self.now.by_kind (number_of kind) side) }
+    {
+        // Stays: `as`, proved to fit, since `try_from` gives a Result that is never an Err.
+        self.by_kind[kind as usize][side] as i64
+    }
+
+    // What is above zero with a sign, less what is below.
+    pub fn excess(&self, kind: Kind, sign: Sign) -> i64
+        ensures { result ≡ pos (held_at self.now.by_kind (number_of kind) (over sign)) +ℤ neg_ℤ (pos (held_at self.now.by_kind (number_of kind) (under sign))) }
+    {
+        self.held(kind, sign.over()) - self.held(kind, sign.under())
+    }
+
+    // Whether the F cases act: with the sign their total is above zero.
+    pub fn fluid_acts(&self, sign: Sign) -> bool
+        ensures { result ≡ fluid_acts (held_at self.now.by_kind) sign }
+    {
+        let fluid = self.by_kind[FLUID];
+        fluid[sign.under()] < fluid[sign.over()]
+    }
+}
