@@ -130,6 +130,7 @@ def point2():
 
 def point3():
     yield from (("loop", *x) for x in lines_like(r"^\s*(while |loop \{)"))
+    yield from (("loop that only counts its turns", *x) for x in lines_like(r"^\s*for _\w* in 0\.\."))
 
 
 def point4():

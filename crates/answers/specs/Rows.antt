@@ -1,4 +1,4 @@
--- The rows that an answer names fit a byte.
+-- The rows that an answer names fit a byte (SCOPE 6.1, 6.2).
 use Rattle.std.specs.Prelude.{◌<◌}
 use Rattle.sheet.specs.declared.Answer.{Answer}
 use Rattle.sheet.specs.declared.Answer.TheVariants as answer

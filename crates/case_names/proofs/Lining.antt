@@ -26,7 +26,7 @@ unfolding line_of
 no_line case [] h = refl
 no_line case (b ∷ bs) h = absurd (omega arith)
 
-text_most : (case : ℕ) (w : List ℕ) → length w ≤ longest_name → length (line_text case w) ≤ line_most
+pub text_most : (case : ℕ) (w : List ℕ) → length w ≤ longest_name → length (line_text case w) ≤ line_most
 unfolding line_text
 text_most case w h = simp length-append (omega (arith, case_most_lem case, name_most w))
 

@@ -24,13 +24,6 @@ const ENAMETOOLONG: i32 = 36;
 
 const EILSEQ: i32 = 84;
 
-// The file to read.
-#[derive(Drop)]
-enum Source<F> {
-    Input,
-    File(F),
-}
-
 // A file that could not be opened, of which standard error is told.
 #[derive(Clone, Copy, PartialEq, Eq, Debug)]
 struct NotOpened;
@@ -47,12 +40,12 @@ fn opened_at<R: Files + Eprint>(rt: &R, path: &[u8]) -> Result<R::File, NotOpene
     })
 }
 
-// The file that the first argument names, standard input where there is none.
-fn opened<R: Env + Files + Eprint>(rt: &R) -> Result<Source<R::File>, NotOpened> {
+// The file that the first argument names, None where there is no argument.
+fn opened<R: Env + Files + Eprint>(rt: &R) -> Result<Option<R::File>, NotOpened> {
     let mut path = io::buffer();
     match rt.arg(1, &mut path) {
-        Ok(n) => Ok(Source::File(opened_at(rt, &path[..n])?)),
-        Err(FillError::NotPresent) => Ok(Source::Input),
+        Ok(n) => Ok(Some(opened_at(rt, &path[..n])?)),
+        Err(FillError::NotPresent) => Ok(None),
         Err(FillError::TooLong) => {
             tell(
                 rt,
@@ -84,8 +77,8 @@ fn write_names(rt: &(impl Print + Eprint + Clock), file: &mut impl Read) {
 
 fn main(rt: HostRuntime) {
     match opened(&rt) {
-        Ok(Source::Input) => write_names(&rt, &mut rt.stdin()),
-        Ok(Source::File(mut file)) => write_names(&rt, &mut file),
+        Ok(Some(mut file)) => write_names(&rt, &mut file),
+        Ok(None) => write_names(&rt, &mut rt.stdin()),
         Err(NotOpened) => {}
     }
 }

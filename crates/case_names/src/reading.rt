@@ -34,8 +34,9 @@ fn turn(
     }
 }
 
-// The names in the file, read to its end, and none where a read failed. A proved loop ends, and no fact says that the file does: the turns
-// are counted to a number that no run reaches.
+// The names in the file, read to its end, and none where a read failed.
+// Stays: turns counted to a number that no run reaches, since no fact says that the file ends and `forever` needs the word Wait, which
+// HANDLES does not give.
 pub fn collect(
     rt: &(impl Eprint + Clock),
     file: &mut impl io::Read,

@@ -19,6 +19,8 @@ pub fn no_names() -> Names
 }
 
 // Keeps the names in a part of the file.
+// Stays: `Fits` as a clause, here and in `turn`, since contracts see of a `Text` its bytes and not the bound on them; a cast, since a case
+// fits, and nothing is known of what is written through `(0..32).zip(names.iter_mut())`.
 pub fn keep_names(part: &[u8], names: &mut Names)
     requires { Fits names.old }
     ensures { AllKept part.now names.old names.new }

@@ -7,17 +7,25 @@ ghost use Rattle.std.proofs.lemmas.List.Edits.{sets};
 ghost use Rattle.standard.specs.Combination.{case_count};
 ghost use Rattle.envelope.specs.Range.{station_count, effect_limit, total_most};
 ghost use Rattle.effects.specs.Effects.{effect_count, place, cleared};
-ghost use Rattle.dead_sums.specs.DeadSums.{dead_sum_count, sums_of, EffectsWithin, SumsHeld, MovesInRange, moved_by, sums_moved};
+ghost use Rattle.dead_sums.specs.DeadSums.{sums_of, EffectsWithin, SumsHeld, MovesInRange, moved_by, sums_moved};
 
 use effects::{COMPONENTS, Effects, STATION_EFFECTS, STATIONS};
+use envelope::StationSums;
+use standard::Kind;
 
-// The sums of a station: three of D, then three of F.
-pub const STATION_SUMS: usize = 2 * COMPONENTS;
+// The sums of a station without cases.
+pub const NO_SUMS: StationSums = StationSums {
+    dead: [0; COMPONENTS],
+    fluid: [0; COMPONENTS],
+};
 
-pub const DEAD_SUMS: usize = STATIONS * STATION_SUMS;
+// D and F, as a sheet's kinds have them.
+// Stays: bytes, since a sheet's kinds are bytes of any value.
+const DEAD: u8 = Kind::Dead as u8;
 
-// Stays: (d) flat, since a look lends its station's part as one slice of six totals.
-pub type DeadSums = [i64; DEAD_SUMS];
+const FLUID: u8 = Kind::Fluid as u8;
+
+pub type DeadSums = [StationSums; STATIONS];
 
 // A sum with an effect replaced.
 fn moved(sum: i64, old: i16, new: i16) -> i64
@@ -27,23 +35,24 @@ fn moved(sum: i64, old: i16, new: i16) -> i64
     sum + (i64::from(new) - i64::from(old))
 }
 
-// The sums of a station, from a position on, with three effects replaced.
+// The sums of D or of F at a station, with three effects, from a position on, replaced.
+// Stays: a position, here and in `put_effects`, since the effects stand flat, and a loop by index, since it takes from three arrays.
 fn move_sums(
-    sums: &mut DeadSums,
-    at: usize,
+    sums: &mut [i64; COMPONENTS],
     effects: &Effects,
     from: usize,
     values: [i16; COMPONENTS],
 )
-    requires { (at + 2 < dead_sum_count) × (from + 2 < effect_count) × MovesInRange sums.old effects.now values }
-    ensures { sums.new ≡ sums_moved sums.old at effects.now from values }
+    requires { (from + 2 < effect_count) × MovesInRange sums.old effects.now values }
+    ensures { sums.new ≡ sums_moved sums.old effects.now from values }
 {
     for j in 0..COMPONENTS {
-        sums[at + j] = moved(sums[at + j], effects[from + j], values[j]);
+        sums[j] = moved(sums[j], effects[from + j], values[j]);
     }
 }
 
 // Replaces a case's three effects at a station. The sums of its kind there move by the difference.
+// Stays: clauses on the case and the station, which come as bytes of a field and are in range only after its refusals.
 pub fn put_effects(
     effects: &mut Effects,
     sums: &mut DeadSums,
@@ -56,10 +65,9 @@ pub fn put_effects(
     ensures { (effects.new ≡ sets effects.old (place case station) values) × (sums.new ≡ sums_of kinds.now effects.new) }
 {
     let from = station * STATION_EFFECTS + case * COMPONENTS;
-    let at = station * STATION_SUMS;
     match wire::byte(kinds, case) {
-        1 => move_sums(sums, at, effects, from, values),
-        2 => move_sums(sums, at + COMPONENTS, effects, from, values),
+        DEAD => move_sums(&mut sums[station].dead, effects, from, values),
+        FLUID => move_sums(&mut sums[station].fluid, effects, from, values),
         _ => {}
     }
     effects::put_effects(effects, from, values);

@@ -2,7 +2,7 @@ ghost use Rattle.std.specs.Prelude.{◌≡◌, ◌+◌, ◌<◌, ◌≤◌, ◌^
 ghost use Rattle.envelope.specs.Range.{total_most, WeightsInRange};
 ghost use Rattle.directions.specs.Four.{directions_of, directed};
 
-use envelope::{StationEffects, Weights};
+use envelope::{Component, StationEffects, Weights};
 use sums::Reading;
 
 // How three numbers are read in four directions: each is weighed, and they are added up with the signs + + +, - + +, + - + and - - +.
@@ -40,9 +40,9 @@ impl Reading<4> for FourDirections {
     ghost along = { λ x effect d k. directed x.weights effect d k };
 
     fn of_case(self, effects: StationEffects<'_>, case: usize) -> [i64; 4] {
-        let n = effects.on(case, 0);
-        let y = effects.on(case, 1);
-        let z = effects.on(case, 2);
+        let n = effects.on(case, Component::N);
+        let y = effects.on(case, Component::Y);
+        let z = effects.on(case, Component::Z);
         self.of(n, y, z)
     }
 }

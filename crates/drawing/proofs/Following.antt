@@ -1,22 +1,16 @@
 -- With other bytes after it a whole field names the same case.
 -- Assumes nothing.
 use Prim.Native.Nat.{ℕ}
-use mathlib.Core.Path.{◌≡◌, refl, ap}
+use mathlib.Core.Path.{◌≡◌, ap}
 use mathlib.Core.List.{List, ◌++◌}
-use mathlib.Core.Bool.{Bool, true, false, ◌&&◌}
+use mathlib.Core.Bool.{false}
 use native.Mathlib.Omega.{arith}
 use lib.Dec.{eqb}
 use Rattle.headers.specs.Headers.{tag_of, length_in, is_cut, name_number, name_length}
 use Rattle.headers.proofs.Whole.{whole_long}
 use Rattle.headers.proofs.Following.{byte_same, stays_whole}
 use Rattle.drawing.specs.Names.{names_case}
-use Rattle.drawing.proofs.Names.{name_lengths}
-
--- two tests behind another, which are the same where that one holds
-and_same : (a b : Bool) {c c' : Bool} → (b ≡ true → c ≡ c') → (a && (b && c)) ≡ (a && (b && c'))
-and_same false b h = refl
-and_same true false h = refl
-and_same true true h = h refl
+use Rattle.drawing.proofs.Names.{and_same, name_lengths}
 
 pub names_same : (s t : List ℕ) (case : ℕ) → is_cut s ≡ false → names_case case (s ++ t) ≡ names_case case s
 names_same s t case e =

@@ -1,6 +1,6 @@
 -- The name found: as the walk has it so far, in the file, and of 1 to 24 bytes.
 -- Assumes nothing.
-use Prim.Native.Nat.{ℕ, zero, suc, ◌+◌, ◌-◌, ◌≤◌}
+use Prim.Native.Nat.{ℕ, zero, suc, ◌+◌, ◌-◌, ◌≤◌, ◌<◌}
 use mathlib.Core.Path.{◌≡◌, refl, sym, ◌∙◌, ap}
 use mathlib.Core.List.{List, [], ◌∷◌}
 use mathlib.Core.Bool.{Bool, true, false, cond, ◌&&◌}
@@ -8,7 +8,7 @@ use mathlib.Core.Logic.{◌⊎◌, inl, inr}
 use native.Mathlib.Omega.{arith}
 use borrow.Author.Tests.{leb-true}
 use lib.ListN.{length, take, drop}
-use lib.Seq.{get_or-drop}
+use lib.Seq.{get_or-take, get_or-drop}
 use lib.Dec.{eqb, leb}
 use Rattle.std.specs.Prelude.{Some, None}
 use Rattle.std.specs.Option.{unwrap_or}
@@ -17,6 +17,8 @@ use Rattle.wire.proofs.Cases.{both}
 use Rattle.refusals.specs.Refusals.{case_outside}
 use Rattle.headers.specs.Headers.{tag_of, length_in, is_cut, name_number, name_length}
 use Rattle.drawing.specs.declared.NamePlace.{NamePlace}
+use Rattle.drawing.specs.declared.fields.Field.{Field}
+use Rattle.drawing.specs.Fields.{FieldOf, is_name_of, name_in}
 use Rattle.drawing.specs.Names.{places_from, places_of, names_case, name_at, no_name, last_of, name_place, case_name}
 use Rattle.drawing.proofs.Walk.{Left, left, left_all, all_left, left_none, left_next, uncut_fits}
 
@@ -85,6 +87,31 @@ names_length case field e =
     let p = and_true (eqb (tag_of field) name_number) _ e in
     let q = and_true (name_length (length_in field)) _ p.1 in
     name_lengths (length_in field) q.0
+
+-- two tests behind another, which are the same where that one holds
+pub and_same : (a b : Bool) {c c' : Bool} → (b ≡ true → c ≡ c') → (a && (b && c)) ≡ (a && (b && c'))
+and_same false b h = refl
+and_same true false h = refl
+and_same true true h = h refl
+
+-- by its tag and its body, a field of the file names the case that it names by its bytes
+module _ (file : List ℕ) (case : ℕ) {at : ℕ} {field : Field} (w : FieldOf file at field) where
+  abbrev s : List ℕ
+  s = drop at file
+
+  names_by : is_name_of case field ≡ names_case case s
+  names_by =
+      rw (w.tag_is, w.length_is)
+      (and_same (eqb (tag_of s) name_number) (name_length (length_in s))
+      (λ n.
+      let some : 0 < length_in s = omega (arith, (name_lengths (length_in s) n).0) in
+      ap (λ (b : ℕ). eqb b case) (ap (λ (b : List ℕ). byte_at b 0) w.body_is ∙ get_or-take (length_in s) (drop 3 s) 0 0 some ∙ get_or-drop 3 s 0 0)))
+
+  name_by : name_in field ≡ name_at file at
+  name_by = rw (w.begins, w.length_is)
+
+  pub name_of_field : cond (is_name_of case field) (Some (name_in field)) None ≡ cond (names_case case s) (Some (name_at file at)) None
+  name_of_field = rw (names_by, name_by)
 
 -- the name found lies in the file
 pub name_within : (file : List ℕ) (case : ℕ) → (name_place file case).from + (name_place file case).len ≤ length file

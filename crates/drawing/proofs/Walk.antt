@@ -8,9 +8,8 @@ use mathlib.Core.Bool.{true, false}
 use mathlib.Core.Logic.{⊎_elim}
 use native.Mathlib.Omega.{arith}
 use lib.ListN.{length, take, drop, length-drop}
-use Rattle.headers.specs.declared.Header.{Header}
 use Rattle.std.specs.Prelude.{Option, Some, None}
-use Rattle.headers.specs.Headers.{tag_of, length_in, is_cut, header, header_of}
+use Rattle.headers.specs.Headers.{Header, tag_of, length_in, is_cut, header, header_of}
 use Rattle.headers.proofs.Whole.{by_header, whole_long, header_fits, part_from}
 use Rattle.drawing.specs.Names.{places_from, places_of}
 

@@ -2,12 +2,13 @@
 -- Assumes nothing.
 use Prim.Native.Nat.{ℕ, zero, suc, ◌+◌, ◌*◌, ◌≤◌, ◌<◌, zero-le}
 use mathlib.Core.Path.{◌≡◌, refl, sym, ap, ◌∙◌}
-use mathlib.Core.List.{List, [], ◌∷◌}
+use mathlib.Core.List.{List, [], ◌∷◌, ◌++◌}
 use mathlib.Core.Logic.{⊎_elim}
 use native.Mathlib.Omega.{arith}
-use lib.ListN.{length, get_or, set}
-use lib.Seq.{sets, length-sets}
+use lib.ListN.{length, get_or, set, take, drop}
+use lib.Seq.{sets, sets-eq, length-sets}
 use lib.IntN.{ℤ, pos, nat_abs}
+use Rattle.std.proofs.lemmas.List.{drop-drop, append_assoc}
 use Rattle.standard.specs.Combination.{case_count}
 use Rattle.envelope.specs.Range.{station_count, component_count, effect_limit}
 use Rattle.wire.proofs.Cases.{lt_or_ge, eq_or_ne}
@@ -15,6 +16,14 @@ use Rattle.wire.proofs.Stores.{sets_keep, sets_below, sets_above, sets_at_lem, r
 use Rattle.effects.specs.Effects.{effect_count, effect_in, place, cleared}
 
 -- ---- three stored
+-- Three copied over a part of a list are a run of stores.
+pub part_copied : {A : Type 0} (l values : List A) (at : ℕ) → length values ≡ component_count → at + 3 ≤ length l →
+    take at l ++ (values ++ drop 3 (drop at l)) ≡ sets l at values
+part_copied l values at three room =
+    let end : at + 3 ≡ at + length values = omega arith in
+    ap (λ d. take at l ++ (values ++ d)) (drop-drop 3 at l ∙ ap (λ n. drop n l) end)
+    ∙ sym (append_assoc (take at l) values _) ∙ sym (sets-eq values l at (omega arith))
+
 -- Three stored at i leave what is read of another three, at m: both stand at multiples of three.
 pub triple_other : {A : Type 0} (d : A) (l values : List A) → length values ≡ component_count → (i m a b j : ℕ) → i ≡ a * 3 → m ≡ b * 3 → (b ≡ a → ⊥) → j < component_count →
     get_or (sets l i values) (m + j) d ≡ get_or l (m + j) d

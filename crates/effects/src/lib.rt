@@ -6,18 +6,18 @@ ghost use Rattle.std.specs.Prelude.{◌≡◌, ◌+◌, ◌<◌};
 ghost use Rattle.std.proofs.lemmas.List.Edits.{sets};
 ghost use Rattle.effects.specs.Effects.{effect_count};
 
+pub use envelope::COMPONENTS;
 use standard::CASES;
 
 pub const STATIONS: usize = 16;
-
-pub const COMPONENTS: usize = 3;
 
 // The effects of a station, and of all.
 pub const STATION_EFFECTS: usize = CASES * COMPONENTS;
 
 pub const EFFECTS: usize = STATIONS * STATION_EFFECTS;
 
-// Stays: (d) flat, since a look lends its station's part as one slice, which the definitions and the pass read by case and component.
+// Stays: flat, since a list of lists of lists owes a length at each station and at each case in `InRange`, `SumsHeld` and `EffectsInRange`, where
+// this one owes one.
 pub type Effects = [i16; EFFECTS];
 
 // Replaces the effects from a position on.

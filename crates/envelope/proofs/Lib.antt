@@ -1,3 +1,4 @@
+pub mod Components
 pub mod Rows
 pub mod Spans
 pub mod Maximum

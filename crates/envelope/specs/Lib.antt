@@ -1,4 +1,5 @@
 pub mod Range
+pub mod Components
 pub mod Envelope
 pub mod Directions
 pub mod Places

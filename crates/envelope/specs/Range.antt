@@ -1,8 +1,9 @@
 -- The range of a station's inputs (SCOPE 2.3 to 2.5).
-use Rattle.std.specs.Prelude.{ℕ, ◌+◌, ◌*◌, ◌<◌, ◌≤◌, List, ◌≡◌, length, get_or, ℤ, pos, nat_abs}
+use Rattle.std.specs.Prelude.{ℕ, zero, suc, ◌+◌, ◌*◌, ◌<◌, ◌≤◌, List, ◌≡◌, length, get_or, ℤ, pos, nat_abs}
 use Rattle.standard.specs.declared.Capacities.{Capacities}
 use Rattle.standard.specs.Kinds.{kind_count}
 use Rattle.standard.specs.Combination.{case_count}
+use Rattle.envelope.specs.declared.StationSums.{StationSums}
 use Rattle.envelope.specs.declared.Weights.{Weights}
 
 -- the kind of a case, 0 for an empty place, and its effect on a component; both are 0 past the last case
@@ -50,10 +51,14 @@ pub record EffectsInRange (effects : List ℤ) : Type 0 where
 abbrev pub total_most : ℕ
 total_most = case_count * effect_limit
 
--- the totals of the cases of D and of F, three of each
-pub record TotalsInRange (totals : List ℤ) : Type 0 where
-  pub long : length totals ≡ 2 * component_count
-  pub range : (i : ℕ) → nat_abs (get_or totals i (pos 0)) ≤ total_most
+-- the total of D, at 0, or of F, at 1, on a component (SCOPE 2.7)
+abbrev pub total_at : StationSums → ℕ → ℕ → ℤ
+total_at totals zero j = get_or totals.dead j (pos 0)
+total_at totals (suc zero) j = get_or totals.fluid j (pos 0)
+total_at totals (suc (suc which)) j = pos 0
+
+pub record TotalsInRange (totals : StationSums) : Type 0 where
+  pub range : (which j : ℕ) → nat_abs (total_at totals which j) ≤ total_most
 
 pub record CapacitiesInRange (p : Capacities) : Type 0 where
   pub n_least : 1 ≤ p.n

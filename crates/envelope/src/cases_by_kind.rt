@@ -13,6 +13,7 @@ pub struct CasesByKind {
 
 impl CasesByKind {
     // The cases of a kind.
+    // Stays: the number of a kind, since the pass in `sums` walks over the numbers.
     pub fn of(&self, kind: usize) -> u64
         requires { kind < kind_count }
         ensures { result ≡ get_or self.now.sets kind 0 }

@@ -1,19 +1,26 @@
 #![tactic(auto)]
 
 ghost use Rattle.std.specs.Prelude.{◌≡◌, ◌<◌, ◌^◌, nat_abs};
-ghost use Rattle.envelope.specs.Signs.{signed, over, under};
+ghost use Rattle.envelope.specs.Signs.{signed, opposite};
 
 mod cases_by_kind;
+mod component;
+mod station;
 mod station_effects;
 
 pub use cases_by_kind::CasesByKind;
+pub use component::{Component, NoComponent};
+pub use station::Station;
 pub use station_effects::StationEffects;
+
+// The number of an effect's components.
+pub const COMPONENTS: usize = 3;
 
 // Effects as they are, or with their signs turned. The minimum is the maximum of the effects with their signs turned, with its own turned.
 #[derive(Clone, Copy, PartialEq, Eq, Debug)]
 pub enum Sign {
-    Plus,
-    Minus,
+    Plus = 0,
+    Minus = 1,
 }
 
 impl Sign {
@@ -28,36 +35,27 @@ impl Sign {
         }
     }
 
-    // Of what is held of effects above zero, at 0, and below, at 1: the place of what is above zero with this sign.
-    pub fn over(self) -> usize
-        ensures { result ≡ over self }
+    pub fn opposite(self) -> Sign
+        ensures { result ≡ opposite self }
     {
         match self {
-            Sign::Plus => 0,
-            Sign::Minus => 1,
-        }
-    }
-
-    // The place of what is below zero with this sign.
-    pub fn under(self) -> usize
-        ensures { result ≡ under self }
-    {
-        match self {
-            Sign::Plus => 1,
-            Sign::Minus => 0,
+            Sign::Plus => Sign::Minus,
+            Sign::Minus => Sign::Plus,
         }
     }
 }
 
 // The row that governs and its value.
-#[derive(Clone, Copy)]
+#[derive(Clone, Copy, PartialEq, Eq, Debug)]
 pub struct Best {
-    pub row: usize,
+    pub row: u8,
     pub value: i64,
 }
 
 // A governing number, and the combination that reaches it: bit k of a set is case k.
-#[derive(Clone, Copy)]
+// Stays: the row and its two sets in both this and `Utilised`, since the statements name them as `x.row`, `x.acting` and `x.low`; with a
+// combination inside, each would go by one name more.
+#[derive(Clone, Copy, PartialEq, Eq, Debug)]
 pub struct Extreme {
     pub value: i64,
     pub row: usize,
@@ -65,21 +63,23 @@ pub struct Extreme {
     pub low: u32,
 }
 
-#[derive(Clone, Copy)]
+#[derive(Clone, Copy, PartialEq, Eq, Debug)]
 pub struct Extremes {
     pub maximum: Extreme,
     pub minimum: Extreme,
 }
 
 // The best of a pattern of signs.
-#[derive(Clone, Copy)]
+// Stays: a pattern by its number, whose bits are its signs.
+#[derive(Clone, Copy, PartialEq, Eq, Debug)]
 pub struct Peak {
     pub pattern: usize,
     pub best: Best,
 }
 
 // Utilisation as numerator over denominator, with the combination that has it.
-#[derive(Clone, Copy)]
+// Stays: the verdict beside the two numbers that it follows from, since the statement of a utilisation names it and the answer has it.
+#[derive(Clone, Copy, PartialEq, Eq, Debug)]
 pub struct Utilised {
     pub numerator: u64,
     pub denominator: u64,
@@ -89,8 +89,16 @@ pub struct Utilised {
     pub low: u32,
 }
 
+// The sums of the effects of a station's D and of its F cases, on each component.
+#[derive(Clone, Copy, PartialEq, Eq, Debug)]
+pub struct StationSums {
+    pub dead: [i64; COMPONENTS],
+    pub fluid: [i64; COMPONENTS],
+}
+
 // What the effects on the three components count for.
-#[derive(Clone, Copy)]
+// Stays: their range is a clause where they are used and no fact here, since `pattern_of` makes weights of capacities of any size.
+#[derive(Clone, Copy, PartialEq, Eq, Debug)]
 pub struct Weights {
     pub n: i64,
     pub y: i64,

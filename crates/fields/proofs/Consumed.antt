@@ -7,9 +7,8 @@ use native.Mathlib.Omega.{arith}
 use borrow.Author.Tests.{le-ltb}
 use lib.ListN.{length}
 use Rattle.sheet.specs.declared.Sheet.{Sheet}
-use Rattle.headers.specs.declared.Header.{Header}
 use Rattle.std.specs.Prelude.{Option, Some, None}
-use Rattle.headers.specs.Headers.{header_of, consumed_of, consumed_by}
+use Rattle.headers.specs.Headers.{Header, header_of, consumed_of, consumed_by}
 use Rattle.fields.specs.Field.{read_field}
 use Rattle.fields.specs.Order.{read_header, read_in_order}
 use Rattle.fields.proofs.InOrder.{read_is}

@@ -10,10 +10,9 @@ use Rattle.sheet.specs.declared.Answered.{Answered}
 use Rattle.sheet.specs.Looks.{looked_extremes, looked_utilisation}
 use Rattle.sheet.specs.Range.{InRange}
 use Rattle.sheet.proofs.Kept.{tried_kept, restarted, fill_kept, effects_kept, emptied_kept, capacities_kept, switch_kept, straining_kept}
-use Rattle.headers.specs.declared.Header.{Header}
 use Rattle.std.specs.Prelude.{Option, Some, None}
 use Rattle.fields.specs.declared.Reading.{Reading}
-use Rattle.headers.specs.Headers.{header_of, due_header}
+use Rattle.headers.specs.Headers.{Header, header_of, due_header}
 use Rattle.fields.specs.Field.{read_field}
 use Rattle.tags.specs.Run.{run_of}
 use Rattle.fields.specs.Order.{field_of, read_header, read_in_order}

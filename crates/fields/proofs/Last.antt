@@ -12,9 +12,8 @@ use Rattle.sheet.specs.declared.Sheet.{Sheet}
 use Rattle.sheet.specs.declared.Answer.{Answer}
 use Rattle.sheet.specs.declared.Answered.{Answered}
 use Rattle.refusals.specs.Refusals.{first_due}
-use Rattle.headers.specs.declared.Header.{Header}
 use Rattle.std.specs.Prelude.{Option, Some, None}
-use Rattle.headers.specs.Headers.{header_of, length_of, last_tag, name_number, name_length, due_header, consumed_by, consumed_of, ready_of}
+use Rattle.headers.specs.Headers.{Header, header_of, length_of, last_tag, name_number, name_length, due_header, consumed_by, consumed_of, ready_of}
 use Rattle.fields.specs.Field.{read_field}
 use Rattle.tags.specs.Run.{run_of}
 use Rattle.fields.specs.Order.{field_of, read_header, read_in_order}

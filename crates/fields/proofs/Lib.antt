@@ -1,5 +1,4 @@
 pub mod InOrder
-pub mod Named
 pub mod Kept
 pub mod Refused
 pub mod Within
@@ -7,3 +6,4 @@ pub mod Consumed
 pub mod Ready
 pub mod Last
 pub mod Alone
+pub mod Named

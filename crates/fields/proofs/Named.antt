@@ -17,10 +17,9 @@ use Rattle.envelope.proofs.Utilisation.{peak_own}
 use Rattle.sheet.specs.declared.Sheet.{Sheet}
 use Rattle.sheet.specs.declared.Answered.{Answered}
 use Rattle.sheet.specs.declared.Answer.{Answer}
-use Rattle.sheet.specs.declared.Edited.{Edited}
 use Rattle.sheet.specs.declared.Answer.TheVariants as answer
 use Rattle.sheet.specs.Sheet.{kind_at}
-use Rattle.sheet.specs.Edits.{unless_refused}
+use Rattle.sheet.specs.Edits.{Edited, unless_refused}
 use Rattle.sheet.specs.Looks.{station_effects, capacities_at, extremes_at, utilisation_at, due_utilisation, looked_extremes, looked_utilisation, unless_due, edited}
 use Rattle.refusals.specs.Refusals.{due_extremes}
 use Rattle.headers.specs.Headers.{due_header}

@@ -13,10 +13,9 @@ use lib.Seq.{take-append-le, drop-append-le}
 use lib.Dec.{ltb}
 use Rattle.wire.specs.Bytes.{byte_at, word_at}
 use Rattle.sheet.specs.declared.Sheet.{Sheet}
-use Rattle.headers.specs.declared.Header.{Header}
 use Rattle.std.specs.Prelude.{Option, Some, None}
 use Rattle.fields.specs.declared.Reading.{Reading}
-use Rattle.headers.specs.Headers.{longest_body, header, header_of, consumed_of, consumed_by, ready_of}
+use Rattle.headers.specs.Headers.{Header, longest_body, header, header_of, consumed_of, consumed_by, ready_of}
 use Rattle.answers.specs.Answers.{last_of, answer_room}
 use Rattle.fields.specs.Field.{read_field}
 use Rattle.fields.specs.Order.{read_header, read_in_order}

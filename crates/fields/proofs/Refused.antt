@@ -11,10 +11,9 @@ use Rattle.sheet.specs.declared.Answered.{Answered}
 use Rattle.sheet.specs.declared.Answer.TheVariants.{Accepted}
 use Rattle.sheet.specs.Edits.{unless_refused}
 use Rattle.sheet.specs.Looks.{looked_extremes, looked_utilisation, edited}
-use Rattle.headers.specs.declared.Header.{Header}
 use Rattle.std.specs.Prelude.{Option, Some, None}
 use Rattle.fields.specs.declared.Reading.{Reading}
-use Rattle.headers.specs.Headers.{header_of, due_header}
+use Rattle.headers.specs.Headers.{Header, header_of, due_header}
 use Rattle.fields.specs.Field.{read_field}
 use Rattle.tags.specs.Run.{run_of}
 use Rattle.fields.specs.Order.{field_of, read_header, read_in_order}

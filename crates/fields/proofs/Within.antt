@@ -14,10 +14,9 @@ use Rattle.wire.proofs.Stores.{put_long, front}
 use Rattle.sheet.specs.declared.Sheet.{Sheet}
 use Rattle.sheet.specs.declared.Answer.TheVariants as answer
 use Rattle.sheet.specs.Range.{InRange}
-use Rattle.headers.specs.declared.Header.{Header}
 use Rattle.std.specs.Prelude.{Option, Some, None}
 use Rattle.fields.specs.declared.Reading.{Reading}
-use Rattle.headers.specs.Headers.{header_of}
+use Rattle.headers.specs.Headers.{Header, header_of}
 use Rattle.fields.specs.Field.{read_field}
 use Rattle.fields.specs.Order.{reading, refused_with, read_header, read_in_order}
 use Rattle.fields.proofs.InOrder.{read_is}

@@ -3,8 +3,7 @@ use Rattle.std.specs.Prelude.{ℕ, List, Option, Some, None, cond, length, take,
 use Rattle.sheet.specs.declared.Sheet.{Sheet}
 use Rattle.sheet.specs.declared.Answered.{Answered}
 use Rattle.sheet.specs.declared.Answer.TheVariants as answer
-use Rattle.headers.specs.declared.Header.{Header}
-use Rattle.headers.specs.Headers.{header_of, due_header, consumed_of}
+use Rattle.headers.specs.Headers.{Header, header_of, due_header, consumed_of}
 use Rattle.answers.specs.Answers.{answer_room, answer_bytes}
 use Rattle.fields.specs.declared.Reading.{Reading}
 use Rattle.tags.specs.Run.{run_of}

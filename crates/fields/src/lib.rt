@@ -8,10 +8,12 @@ ghost use Rattle.sheet.specs.Looks.{answered};
 ghost use Rattle.sheet.specs.Range.{InRange};
 
 use answers::ANSWER_ROOM;
-use headers::Header;
+use headers::Field;
 use refusals::Refusal;
 use sheet::{Answer, Sheet};
 
+// A reading: its answer, the sheet after it, and how many bytes it consumes and writes.
+// Stays: the fields of `Outcome` again, since with an `Outcome` in it each reader and each statement would write r.outcome.answer for r.answer.
 #[derive(Clone, Copy)]
 pub struct Reading {
     pub answer: Answer,
@@ -21,6 +23,7 @@ pub struct Reading {
 }
 
 // A reading without the sheet after it.
+// Stays: two counts beside the answer, since callers go on in their bytes by them.
 #[derive(Clone, Copy)]
 pub struct Outcome {
     pub answer: Answer,
@@ -50,7 +53,7 @@ fn field_in(sheet: &mut Sheet, tag: u8, body: &[u8]) -> Result<Answer, Refusal>
     requires { InRange sheet.old }
     ensures { answered result sheet.new ≡ field_of sheet.old tag body.now }
 {
-    headers::check_header(tag, body.len())?;
+    let tag = headers::check_header(tag, body.len())?;
     tags::run(sheet, tag, body)
 }
 
@@ -66,7 +69,7 @@ pub fn read_in(sheet: &mut Sheet, input: &[u8], out: &mut [u8]) -> Outcome
             written: 0,
         };
     }
-    let Some(Header { tag, len }) = headers::header_of(input) else {
+    let Some(Field { tag, body }) = headers::field_of(input) else {
         let answer = Answer::from(Err(Refusal::Cut));
         let written = answers::put_answer(out, answer);
         return Outcome {
@@ -75,11 +78,11 @@ pub fn read_in(sheet: &mut Sheet, input: &[u8], out: &mut [u8]) -> Outcome
             written,
         };
     };
-    let answer = Answer::from(field_in(sheet, tag, &input[3..3 + len]));
+    let answer = Answer::from(field_in(sheet, tag, body));
     let written = answers::put_answer(out, answer);
     Outcome {
         answer,
-        consumed: 3 + len,
+        consumed: 3 + body.len(),
         written,
     }
 }

@@ -8,7 +8,7 @@ use native.Mathlib.Omega.{arith}
 use borrow.Author.Tests.{le-ltb, ltb-false}
 use lib.ListN.{length}
 use lib.Dec.{ltb}
-use Rattle.std.specs.Prelude.{Option, Some, None, Ok, Err}
+use Rattle.std.specs.Prelude.{Option, Some, None, Result, Ok, Err}
 use Rattle.wire.specs.Bytes.{over}
 use Rattle.sheet.specs.declared.Sheet.{Sheet}
 use Rattle.saved_fields.specs.Saved.{saved_bytes}
@@ -16,7 +16,7 @@ use Rattle.saved_fields.proofs.Lengths.{saved_most_lem}
 use Rattle.saving.specs.Saving.{saved_answer, saved_over}
 use Rattle.lists.specs.Lists.{fields_of, short, sheet_after}
 use Rattle.loading.specs.Loaded.{loaded, due_state}
-use Rattle.frames_c.specs.Calls.{place_room, due_answer, answered, Answered, AnswerDone, RunDone, count_unless, count_of}
+use Rattle.frames_c.specs.Calls.{place_room, due_answer, answered, ran_of, Answered, AnswerDone, RunDone, count_unless, count_of}
 
 none_of : (due : Option ℕ) {w n : ℕ} → count_unless due w ≡ Ok n → (due ≡ None) × (n ≡ w)
 none_of None {w} {n} e = let f : n ≡ w = cc in (refl, f)
@@ -45,15 +45,19 @@ pub small_place : (state input o place : List ℕ) → ltb (length place) place_
 small_place state input o place e = record { result = rw e; written = rw e; saved = rw e }
 
 module _ (state input o : List ℕ) {o' : List ℕ} {s : Sheet} where
-  pub answer_done : {n : ℕ} → Answered state input o (Ok n) s o' → AnswerDone state input o (record { refusal = 0; written = n; saved = 0 }) o'
+  answer_done : {n : ℕ} → Answered state input o (Ok n) s o' → AnswerDone state input o (record { refusal = 0; written = n; saved = 0 }) o'
   answer_done h =
       let d = none_of (due_answer state input (length o)) (sym h.result) in
       record { result = rw (d.0, d.1); written = rw d.0 (rw d.0 at h.written) }
 
-  pub answer_refused : {n : ℕ} → Answered state input o (Err n) s o' → AnswerDone state input o (record { refusal = n; written = 0; saved = 0 }) o'
+  answer_refused : {n : ℕ} → Answered state input o (Err n) s o' → AnswerDone state input o (record { refusal = n; written = 0; saved = 0 }) o'
   answer_refused h =
       let d = some_of (due_answer state input (length o)) (length (answered state input)) (sym h.result) in
       record { result = rw d; written = rw d (rw d at h.written) }
+
+  pub answer_given : (r : Result ℕ ℕ) → Answered state input o r s o' → AnswerDone state input o (ran_of r) o'
+  answer_given (Ok n) h = answer_done h
+  answer_given (Err n) h = answer_refused h
 
   module _ (place : List ℕ) where
     module _ (e : ltb (length place) place_room ≡ false) where

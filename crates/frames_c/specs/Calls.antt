@@ -27,6 +27,11 @@ answered state input = bytes_of (answers_to (fields_of input) (loaded state))
 abbrev pub saved_after : List ℕ → List ℕ → List ℕ
 saved_after state input = saved_bytes (sheet_after (fields_of input) (loaded state))
 
+-- a count of bytes answered, or a refusal, as the call hands it back where nothing is saved
+abbrev pub ran_of : Result ℕ ℕ → Ran
+ran_of (Ok written) = record { refusal = 0; written = written; saved = 0 }
+ran_of (Err due) = record { refusal = due; written = 0; saved = 0 }
+
 -- a refused call writes and saves nothing
 abbrev pub ran_unless : Option ℕ → ℕ → ℕ → Ran
 ran_unless None written saved = record { refusal = 0; written = written; saved = saved }

@@ -15,7 +15,7 @@ use sums::Sums;
 use terms::{Row, Terms};
 
 // The better of the row held and another.
-// Stays: an `if`, since of equals the one held is kept; `max_by_key` says that by the order of its arguments alone. So in `higher`.
+// Stays: an `if`, here and in `higher`, since of equals the one held is kept, which `max_by_key` says by the order of its arguments alone.
 fn better(held: Best, other: Best) -> Best
     ensures { result ≡ better_by held other.row other.value }
 {
@@ -37,23 +37,29 @@ fn higher(held: Peak, pattern: usize, best: Best) -> Peak
     }
 }
 
-// What the open rows are compared by: settings and terms in range.
+// The rows that are open under settings in range.
+#[derive(Clone, Copy)]
+pub struct OpenRows {
+    pub settings: Settings,
+    pub ghost in_range: { SettingsInRange settings },
+}
+
+// What the open rows are compared by: terms in range.
 #[derive(Clone, Copy)]
 struct Look {
-    settings: Settings,
+    rows: OpenRows,
     terms: Terms,
-    ghost settings_in_range: { SettingsInRange settings },
     ghost terms_in_range: { TermsInRange terms },
 }
 
 impl Look {
     // A row with its value.
-    fn at(self, number: usize) -> Best
+    fn at(self, number: u8) -> Best
         requires { number < row_count }
-        ensures { result ≡ best_at number (value_of self.settings number self.terms) }
+        ensures { result ≡ best_at number (value_of self.rows.settings number self.terms) }
     {
         let row = Row {
-            settings: self.settings,
+            settings: self.rows.settings,
             number,
         };
         Best {
@@ -64,27 +70,27 @@ impl Look {
 
     // The best of the row held and those from one number to another. The numbers are const parameters, so that the compiler folds the
     // table into the code.
-    fn best_in<const FIRST: usize, const LAST: usize>(self, held: Best) -> Best
+    fn best_in<const FIRST: u8, const LAST: u8>(self, held: Best) -> Best
         requires { (FIRST ≤ LAST) × (LAST < row_count) }
-        ensures { result ≡ best_in (λ row. value_of self.settings row self.terms) held (rows_to FIRST LAST) }
+        ensures { result ≡ best_in (λ row. value_of self.rows.settings row self.terms) held (rows_to FIRST LAST) }
     {
         let mut best = held;
-        for row in FIRST..LAST + 1 {
+        for row in FIRST..=LAST {
             best = better(best, self.at(row));
         }
         best
     }
 
     // The same with some rows in zone 1, others in zone 2.
-    fn with_flood<const ONE: usize, const ONE_LAST: usize, const TWO: usize, const TWO_LAST: usize>(
+    fn with_flood<const ONE: u8, const ONE_LAST: u8, const TWO: u8, const TWO_LAST: u8>(
         self,
         held: Best,
     ) -> Best
         requires one { (ONE ≤ ONE_LAST) × (ONE_LAST < row_count) }
         requires two { (TWO ≤ TWO_LAST) × (TWO_LAST < row_count) }
-        ensures { result ≡ best_among (λ row. value_of self.settings row self.terms) held (by_zone self.settings (rows_to ONE ONE_LAST) (rows_to TWO TWO_LAST)) }
+        ensures { result ≡ best_among (λ row. value_of self.rows.settings row self.terms) held (by_zone self.rows.settings (rows_to ONE ONE_LAST) (rows_to TWO TWO_LAST)) }
     {
-        match self.settings.zone {
+        match self.rows.settings.zone {
             1 => self.best_in::<ONE, ONE_LAST>(held),
             2 => self.best_in::<TWO, TWO_LAST>(held),
             _ => held,
@@ -92,11 +98,11 @@ impl Look {
     }
 
     // The same with the ice rows, where they are switched on.
-    fn with_ice<const FIRST: usize, const LAST: usize>(self, held: Best) -> Best
+    fn with_ice<const FIRST: u8, const LAST: u8>(self, held: Best) -> Best
         requires { (FIRST ≤ LAST) × (LAST < row_count) }
-        ensures { result ≡ best_among (λ row. value_of self.settings row self.terms) held (by_ice self.settings (rows_to FIRST LAST)) }
+        ensures { result ≡ best_among (λ row. value_of self.rows.settings row self.terms) held (by_ice self.rows.settings (rows_to FIRST LAST)) }
     {
-        if self.settings.ice == 1 {
+        if self.rows.settings.ice == 1 {
             self.best_in::<FIRST, LAST>(held)
         } else {
             held
@@ -106,8 +112,8 @@ impl Look {
     // The best row of method 1.
     // Stays: a function for each method, since in one a utilisation takes 10 to 30 instructions more.
     fn strength(self) -> Best
-        requires { self.settings.method ≡ 1 }
-        ensures { result ≡ best_of self.settings (λ row. value_of self.settings row self.terms) }
+        requires { self.rows.settings.method ≡ 1 }
+        ensures { result ≡ best_of self.rows.settings (λ row. value_of self.rows.settings row self.terms) }
     {
         let plain = self.best_in::<2, 8>(self.at(1));
         let flooded = self.with_flood::<9, 10, 11, 12>(plain);
@@ -116,8 +122,8 @@ impl Look {
 
     // The best row of method 2.
     fn allowable(self) -> Best
-        requires { self.settings.method ≡ 2 }
-        ensures { result ≡ best_of self.settings (λ row. value_of self.settings row self.terms) }
+        requires { self.rows.settings.method ≡ 2 }
+        ensures { result ≡ best_of self.rows.settings (λ row. value_of self.rows.settings row self.terms) }
     {
         let plain = self.best_in::<22, 30>(self.at(21));
         let flooded = self.with_flood::<31, 35, 36, 40>(plain);
@@ -126,9 +132,9 @@ impl Look {
 
     // The row that governs.
     fn governing(self) -> Best
-        ensures { result ≡ best_of self.settings (λ row. value_of self.settings row self.terms) }
+        ensures { result ≡ best_of self.rows.settings (λ row. value_of self.rows.settings row self.terms) }
     {
-        if self.settings.method == 1 {
+        if self.rows.settings.method == 1 {
             self.strength()
         } else {
             self.allowable()
@@ -136,30 +142,32 @@ impl Look {
     }
 }
 
-// The row that governs the effects with a sign.
-pub fn toward(settings: Settings, sums: &Sums, sign: Sign) -> Best
-    requires { Ready (held_at sums.now.by_kind) × SettingsInRange settings }
-    ensures { result ≡ toward_of settings (held_at sums.now.by_kind) sign }
-{
-    let look = Look {
-        settings,
-        terms: terms::terms_of(sums, sign),
-    };
-    look.governing()
-}
-
-// The pattern with the greatest numerator, from the sums of four directions.
-pub fn highest(settings: Settings, sums: &[Sums; 4]) -> Peak
-    requires { ((d : ℕ) → d < 4 → Ready (held_in sums.now d)) × SettingsInRange settings }
-    ensures { result ≡ peak_of (eight_of settings (held_in sums.now)) 7 }
-{
-    let mut peak = Peak {
-        pattern: 0,
-        best: toward(settings, &sums[0], Sign::Plus),
-    };
-    for pattern in 1..8 {
-        let (direction, sign) = directions::way_of(pattern);
-        peak = higher(peak, pattern, toward(settings, &sums[direction], sign));
+impl OpenRows {
+    // The row that governs the effects with a sign.
+    pub fn toward(self, sums: &Sums, sign: Sign) -> Best
+        requires { Ready (held_at sums.now.by_kind) }
+        ensures { result ≡ toward_of self.settings (held_at sums.now.by_kind) sign }
+    {
+        let look = Look {
+            rows: self,
+            terms: terms::terms_of(sums, sign),
+        };
+        look.governing()
     }
-    peak
+
+    // The pattern with the greatest numerator, from the sums of four directions.
+    pub fn highest(self, sums: &[Sums; 4]) -> Peak
+        requires { (d : ℕ) → d < 4 → Ready (held_in sums.now d) }
+        ensures { result ≡ peak_of (eight_of self.settings (held_in sums.now)) 7 }
+    {
+        let mut peak = Peak {
+            pattern: 0,
+            best: self.toward(&sums[0], Sign::Plus),
+        };
+        for pattern in 1..8 {
+            let (direction, sign) = directions::way_of(pattern);
+            peak = higher(peak, pattern, self.toward(&sums[direction], sign));
+        }
+        peak
+    }
 }

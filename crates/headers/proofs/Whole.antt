@@ -12,10 +12,9 @@ use lib.ListN.{length, take, drop, length-drop}
 use lib.Seq.{take_all}
 use lib.Dec.{ltb}
 use Rattle.wire.specs.Bytes.{byte_at, word_at}
-use Rattle.headers.specs.declared.Header.{Header}
 use Rattle.std.specs.Prelude.{Option, Some, None}
 use Rattle.std.specs.Option.{option_map_or}
-use Rattle.headers.specs.Headers.{longest_body, tag_of, length_in, is_cut, header, header_of, consumed_of, consumed_by}
+use Rattle.headers.specs.Headers.{Header, longest_body, tag_of, length_in, is_cut, header, header_of, consumed_of, consumed_by}
 
 not_short : (t : Bool) (o : Option Header) (h : Header) → cond t None o ≡ Some h → (t ≡ false) × (o ≡ Some h)
 not_short true o h e = absurd (let z : ◌≡◌ {A = ℕ} 0 1 = cc in omega arith)

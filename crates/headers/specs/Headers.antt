@@ -1,7 +1,6 @@
 -- SCOPE 5.1 and 7: a field's header, the refusals 3, 1 and 2, and how much a reading consumes.
 use Rattle.std.specs.Prelude.{ℕ, ◌+◌, ◌-◌, List, [], ◌∷◌, Bool, true, false, cond, ◌&&◌, ◌||◌, Option, Some, None, length, get_or, take, drop, ltb, leb, eqb}
 use Rattle.wire.specs.Bytes.{byte_at, word_at}
-use Rattle.headers.specs.declared.Header.{Header}
 
 -- the greatest length of a body (SCOPE 7.1)
 abbrev pub longest_body : ℕ
@@ -20,6 +19,11 @@ body_of input = take (length_in input) (drop 3 input)
 -- header or body goes past the end, or the length is above 60,000 (SCOPE 7.1)
 abbrev pub is_cut : List ℕ → Bool
 is_cut input = ltb (length input) 3 || (ltb longest_body (length_in input) || ltb (length input - 3) (length_in input))
+
+-- what a header says: the tag, and the length of the body (SCOPE 5.1)
+pub record Header : Type 0 where
+  pub tag : ℕ
+  pub len : ℕ
 
 abbrev pub header : (tag len : ℕ) → Header
 header tag len = record { tag = tag; len = len }

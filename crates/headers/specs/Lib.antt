@@ -1,1 +1,3 @@
+pub mod Fields
 pub mod Headers
+pub mod Tags

@@ -4,9 +4,9 @@ use Prim.Native.Nat.{ℕ, ◌<◌}
 use native.Mathlib.Omega.{arith}
 use mathlib.Core.Path.{◌≡◌, refl, sym, ap, ◌∙◌, subst}
 use mathlib.Core.List.{List}
-use lib.IntN.{ℤ}
 use lib.ListN.{length}
 use Rattle.integers.specs.Sums.{sum_where}
+use Rattle.envelope.specs.declared.StationSums.{StationSums}
 use Rattle.envelope.specs.Range.{station_count, component_count}
 use Rattle.standard.specs.Combination.{case_count}
 use Rattle.dead_sums.specs.DeadSums.{of_dead_kind, sum_in}
@@ -33,9 +33,9 @@ unfolding effect_at
 sums_true {s} h = record { dead = λ t j a b. at 0 (omega arith) t j a b; fluid = λ t j a b. at 1 (omega arith) t j a b }
   where
     at : (which : ℕ) → which < 2 → (t j : ℕ) → t < station_count → j < component_count → sum_in s.sums which t j ≡ sum_where case_count (of_dead_kind s.kinds which) (λ k. effect_at s k t j)
-    at which c t j a b = ap (λ (l : List ℤ). sum_in l which t j) h.sums_true ∙ sum_is (of_dead_kind s.kinds) s.effects which t j c a b
+    at which c t j a b = ap (λ (l : List StationSums). sum_in l which t j) h.sums_true ∙ sum_is (of_dead_kind s.kinds) s.effects which t j c a b
 
-saved_alike : (s : Sheet) (sums : List ℤ) → saved_bytes (record s { sums = sums }) ≡ saved_bytes s
+saved_alike : (s : Sheet) (sums : List StationSums) → saved_bytes (record s { sums = sums }) ≡ saved_bytes s
 unfolding saved_bytes effect_at capacity_at
 saved_alike s sums = refl
 

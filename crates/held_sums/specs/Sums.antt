@@ -3,6 +3,7 @@
 use Rattle.std.specs.Prelude.{ℕ, ◌<◌, ◌≡◌, List, ◌∷◌, eqb, ℤ}
 use Rattle.integers.specs.Sums.{sum_where}
 use Rattle.standard.specs.Combination.{case_count}
+use Rattle.envelope.specs.declared.StationSums.{StationSums}
 use Rattle.envelope.specs.Range.{station_count, component_count}
 use Rattle.dead_sums.specs.DeadSums.{sum_in}
 use Rattle.sheet.specs.declared.Sheet.{Sheet}
@@ -31,7 +32,7 @@ pub record SumsKeptTrue : Type 0 where
   pub refused : (ms : List Made) (s : Sheet) → Readings fresh_sheet ms s → (m : Made) (n : ℕ) → ReadOn s m → m.result.answer ≡ answer.Refused n →
       m.result.sheet.sums ≡ s.sums
   -- saved bytes don't depend on them (SCOPE 8.1), and what saved bytes restore has them true
-  pub unsaved : (s : Sheet) (sums : List ℤ) → saved_bytes (record s { sums = sums }) ≡ saved_bytes s
+  pub unsaved : (s : Sheet) (sums : List StationSums) → saved_bytes (record s { sums = sums }) ≡ saved_bytes s
   pub restored : (ms : List Made) (s : Sheet) → Readings fresh_sheet ms s → (s₀ s₁ : Sheet) → Restores (saved_bytes s) s₀ s₁ → SumsTrue s₁
 
 -- a field of tag 04, whatever follows it (SCOPE 5.2)

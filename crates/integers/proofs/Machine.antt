@@ -23,9 +23,6 @@ pub sum_back : (a b : ℤ) → nat_abs a + nat_abs b < 2 ^ 63 → to_z w64 (of_z
 sum_back a b h = rw (back a (omega arith), back b (omega arith)) (back (a +ℤ b) (omega (arith, abs_add a b)))
 
 -- `-x` is `0 - x` on the machine
-pub neg_fits : (x : ℤ) → nat_abs x < 2 ^ 63 → SFits w64 (pos 0 -ℤ to_z w64 (of_z w64 x))
-neg_fits x h = rw (back x h, +ℤ_idl (neg_ℤ x)) (small (neg_ℤ x) (omega (arith, abs_negated x)))
-
 pub neg_back : (x : ℤ) → nat_abs x < 2 ^ 63 → to_z w64 (of_z w64 (pos 0 -ℤ to_z w64 (of_z w64 x))) ≡ neg_ℤ x
 neg_back x h = rw (back x h, +ℤ_idl (neg_ℤ x)) (back (neg_ℤ x) (omega (arith, abs_negated x)))
 

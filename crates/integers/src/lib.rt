@@ -15,6 +15,7 @@ impl Iterator for Members {
 
     ghost remaining = { λ s. at_most s.0 };
 
+    // Stays: `as`, since `usize` has no `From<u32>` and `try_from` would give a Result that is never an `Err`.
     fn next(&mut self) -> Option<usize> {
         if self.0 == 0 {
             return None;

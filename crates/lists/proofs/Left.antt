@@ -104,3 +104,13 @@ unfolding fields_from
 only_field w g e =
     let d : drop (consumed_by w) w ≡ [] = ap (λ (n : ℕ). drop n w) e ∙ drop-length w in
     first_field w g ∙ ap (λ (v : List ℕ). w ∷ fields_of v) d
+
+-- each has a byte at least
+few : (n : ℕ) (w : List ℕ) → length (fields_from n w) ≤ n
+unfolding fields_from
+few zero w = omega arith
+few (suc n) [] = omega arith
+few (suc n) (b ∷ bs) = let m = few n (drop (consumed_by (b ∷ bs)) (b ∷ bs)) in omega arith
+
+pub fields_few : (w : List ℕ) → length (fields_of w) ≤ length w
+fields_few w = few (length w) w

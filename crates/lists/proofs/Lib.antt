@@ -1,4 +1,3 @@
 pub mod Left
 pub mod Placed
 pub mod Joins
-pub mod Counts

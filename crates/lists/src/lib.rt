@@ -1,23 +1,40 @@
 #![tactic(auto)]
 
-// Lists of fields in given bytes: how many fields there are, and whether an output has room for the answers to them.
+// Lists of fields in given bytes: the fields one after the other, and whether an output has room for the answers to them.
 ghost use Rattle.std.specs.Prelude.{◌≡◌, length};
 ghost use Rattle.lists.specs.Lists.{fields_of, short};
 
 use answers::ANSWER_ROOM;
 
-// How many fields the bytes hold. One that is cut is the last.
-// Stays: `while`, here and in the other walks over fields, since a field says itself where the next one begins.
+// The fields of the bytes, each as the bytes from its tag on. One that is cut is the last.
+// Stays: beside `drawing::fields::Fields`, which ends at a field that is cut, where this one yields it.
+#[derive(Clone, Copy)]
+pub struct Fields<'a>(pub &'a [u8]);
+
+impl<'a> Iterator for Fields<'a> {
+    ghost use Rattle.std.specs.Iterator.{YieldsFirstRef, item_count};
+
+    type Item = &'a [u8];
+
+    ghost next_gives = { YieldsFirstRef (λ s. fields_of s.0.now) };
+
+    ghost remaining = { item_count (λ s. fields_of s.0.now) };
+
+    fn next(&mut self) -> Option<&'a [u8]> {
+        let field = self.0;
+        if field.is_empty() {
+            return None;
+        }
+        self.0 = &field[headers::consumed_by(field)..];
+        Some(field)
+    }
+}
+
+// How many fields the bytes hold.
 pub fn count(input: &[u8]) -> usize
     ensures { result ≡ length (fields_of input.now) }
 {
-    let mut n = 0;
-    let mut left = input;
-    while !left.is_empty() {
-        left = &left[headers::consumed_by(left)..];
-        n += 1;
-    }
-    n
+    Fields(input).count()
 }
 
 // Whether the output has under 37 bytes for each field.

@@ -1,28 +1,25 @@
 -- The loop over a state: the sheet that it gives, and its first refusal.
 -- Assumes nothing.
-use Prim.Native.Nat.{ℕ, ◌<◌}
+use Prim.Native.Nat.{ℕ}
 use mathlib.Core.Path.{◌≡◌, refl, sym, ◌∙◌, ap}
-use mathlib.Core.List.{List}
-use lib.ListN.{length, drop}
+use mathlib.Core.List.{List, [], ◌∷◌}
+use lib.ListN.{length}
 use Rattle.std.specs.Prelude.{Option, Some, None}
 use Rattle.std.specs.Option.{option_or}
 use Rattle.sheet.specs.declared.Sheet.{Sheet}
 use Rattle.sheet.specs.Range.{InRange}
-use Rattle.headers.specs.Headers.{consumed_by}
 use Rattle.fields.specs.declared.Reading.{Reading}
 use Rattle.fields.specs.Field.{read_field}
 use Rattle.fields.specs.Readings.{FieldRead}
 use Rattle.fields.proofs.Kept.{read_kept}
-use Rattle.fields.proofs.Consumed.{read_consumed}
 use Rattle.answers.specs.Answers.{answer_room}
 use Rattle.lists.specs.Lists.{fields_of, sheet_after, answers_to}
-use Rattle.lists.proofs.Left.{no_bytes, first_field}
 use Rattle.loading.specs.Loaded.{refusal_of, first_refusal}
 
--- the fields of the bytes left lead where those of the state lead from the sheet at the start; an earlier refusal comes before theirs
-pub record Going (state : List ℕ) (start : Sheet) (left : List ℕ) (s : Sheet) (earlier : Option ℕ) : Type 0 where
-  pub sheet : sheet_after (fields_of left) s ≡ sheet_after (fields_of state) start
-  pub refusal : option_or earlier (first_refusal (answers_to (fields_of left) s)) ≡ first_refusal (answers_to (fields_of state) start)
+-- the fields left lead where those of the state lead from the sheet at the start; an earlier refusal comes before theirs
+pub record Going (state : List ℕ) (start : Sheet) (left : List (List ℕ)) (s : Sheet) (earlier : Option ℕ) : Type 0 where
+  pub sheet : sheet_after left s ≡ sheet_after (fields_of state) start
+  pub refusal : option_or earlier (first_refusal (answers_to left s)) ≡ first_refusal (answers_to (fields_of state) start)
   pub in_range : InRange s
 
 or_assoc : (a b c : Option ℕ) → option_or (option_or a b) c ≡ option_or a (option_or b c)
@@ -33,32 +30,23 @@ or_none : (a : Option ℕ) → option_or a None ≡ a
 or_none None = refl
 or_none (Some n) = refl
 
-pub going_start : (state : List ℕ) {s : Sheet} → InRange s → Going state s state s None
+pub going_start : (state : List ℕ) {s : Sheet} → InRange s → Going state s (fields_of state) s None
 going_start state x = record { sheet = refl; refusal = refl; in_range = x }
 
--- a reading consumes its field
-pub read_further : {left o o' : List ℕ} {s : Sheet} {r : Reading} → length o ≡ answer_room → FieldRead left o s r o' → r.consumed ≡ consumed_by left
-read_further {left} {s = s} n x = ap (λ (z : Reading). z.consumed) (rw n at x.reading) ∙ read_consumed left s
-
-module _ {state left : List ℕ} {start s : Sheet} {earlier : Option ℕ} (h : Going state start left s earlier) where
-  pub going_next : 0 < length left → {o o' : List ℕ} {r : Reading} {later : Option ℕ} → length o ≡ answer_room → FieldRead left o s r o' →
-      later ≡ option_or earlier (refusal_of r.answer) → Going state start (drop r.consumed left) r.sheet later
+module _ {state : List ℕ} {left : List (List ℕ)} {start s : Sheet} {earlier : Option ℕ} (h : Going state start left s earlier) where
+  pub going_next : {field : List ℕ} {rest : List (List ℕ)} → left ≡ field ∷ rest → {o o' : List ℕ} {r : Reading} {later : Option ℕ} →
+      length o ≡ answer_room → FieldRead field o s r o' → later ≡ option_or earlier (refusal_of r.answer) → Going state start rest r.sheet later
   unfolding sheet_after answers_to first_refusal
-  going_next g {r = r} n x l =
-      let e = first_field left g in
-      let y : r ≡ read_field left answer_room s = rw n at x.reading in
-      let c = read_further n x in
+  going_next {field} {rest} e {r = r} n x l =
+      let y : r ≡ read_field field answer_room s = rw n at x.reading in
       let a = ap (λ (z : Reading). z.answer) y in
       let t = ap (λ (z : Reading). z.sheet) y in
-      let rest = fields_of (drop (consumed_by left) left) in
       record {
-        sheet = rw (c, t) (rw e at h.sheet);
-        refusal = rw (c, t, l, a) (or_assoc earlier (refusal_of (read_field left answer_room s).answer) (first_refusal (answers_to rest (read_field left answer_room s).sheet)) ∙ (rw e at h.refusal));
-        in_range = rw t (read_kept left answer_room s h.in_range);
+        sheet = rw t (rw e at h.sheet);
+        refusal = rw (t, l, a) (or_assoc earlier (refusal_of (read_field field answer_room s).answer) (first_refusal (answers_to rest (read_field field answer_room s).sheet)) ∙ (rw e at h.refusal));
+        in_range = rw t (read_kept field answer_room s h.in_range);
       }
 
-  pub going_end : length left ≡ 0 → (s ≡ sheet_after (fields_of state) start) × (earlier ≡ first_refusal (answers_to (fields_of state) start))
+  pub going_end : left ≡ [] → (s ≡ sheet_after (fields_of state) start) × (earlier ≡ first_refusal (answers_to (fields_of state) start))
   unfolding sheet_after answers_to first_refusal
-  going_end e =
-      let n = no_bytes left e in
-      (rw n at h.sheet, sym (or_none earlier) ∙ (rw n at h.refusal))
+  going_end n = (rw n at h.sheet, sym (or_none earlier) ∙ (rw n at h.refusal))

@@ -9,20 +9,25 @@ ghost use Rattle.lists.specs.Lists.{fields_of, sheet_after, answers_to, bytes_of
 ghost use Rattle.loading.specs.Loaded.{refusal_of, first_refusal};
 
 use answers::ANSWER_ROOM;
+use lists::Fields;
+use refusals::Refusal;
 use sheet::{Answer, Sheet};
 
 // The refusal of a field that was to be accepted.
+// Stays: a refusal by its number, here and in `load`, as the answer of a field has it.
 fn refusal_of(answer: Answer) -> Option<u8>
     ensures { result ≡ refusal_of answer }
 {
     match answer {
         Answer::Accepted => None,
         Answer::Refused(n) => Some(n),
-        Answer::Extremes(_) | Answer::Utilisation(_) => Some(1),
+        Answer::Extremes(_) | Answer::Utilisation(_) => Some(u8::from(Refusal::UnknownTag)),
     }
 }
 
 // Reads the fields of the input, one after the other, and writes their answers over the front of the output: how many bytes they are.
+// Stays: `while`, since `Fields` reads each header a second time: 215 instructions for a 03 and 286 for a 02 or 04, where the bounds are 211
+// and 278 and this takes 203 and 274.
 pub fn read_all(sheet: &mut Sheet, input: &[u8], output: &mut [u8]) -> usize
     requires in_range { InRange sheet.old }
     requires room { answer_room * length (fields_of input.now) ≤ length output.old }
@@ -48,11 +53,9 @@ pub fn load(sheet: &mut Sheet, state: &[u8]) -> Option<u8>
     ensures in_range { InRange sheet.new }
 {
     let mut answer = [0; ANSWER_ROOM];
-    let mut left = state;
     let mut refusal = None;
-    while !left.is_empty() {
-        let r = fields::read_in(sheet, left, &mut answer);
-        left = &left[r.consumed..];
+    for field in Fields(state) {
+        let r = fields::read_in(sheet, field, &mut answer);
         refusal = refusal.or(refusal_of(r.answer));
     }
     refusal

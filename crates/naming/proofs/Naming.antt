@@ -1,45 +1,59 @@
--- The cases gathered from a run of kinds, and the sets made of them: they fit.
+-- The cases gathered from some kinds, and the sets made of them: they fit.
 -- Assumes nothing.
-use Prim.Native.Nat.{ℕ, ◌+◌, ◌-◌, ◌*◌, ◌<◌, ◌≤◌, ◌^◌}
+use Prim.Native.Nat.{ℕ, ◌+◌, ◌*◌, ◌<◌, ◌≤◌, ◌^◌}
 use native.Mathlib.Numerals.{add-one}
 use native.Mathlib.Omega.{arith}
 use mathlib.Core.Bool.{Bool}
 use mathlib.Core.List.{List}
-use mathlib.Core.Path.{◌≡◌, refl, sym, ap, ◌∙◌}
+use mathlib.Core.Path.{◌≡◌, refl, sym, ◌∙◌}
 use lib.IntN.{ℤ}
 use lib.ListN.{get_or}
 use lib.Pow.{pow-lt, pow_pos}
 use Rattle.integers.specs.Sums.{when, sum, most, most_at, up}
 use Rattle.integers.specs.Sets.{has}
 use Rattle.integers.proofs.Sums.{ltb_cases, most_at_lem, when_le, sum_most}
-use Rattle.standard.specs.Kinds.{kind_count}
+use Rattle.standard.specs.declared.Kind.{Kind}
+use Rattle.standard.specs.declared.Kind.TheVariants.{Dead, Fluid, EarthPermanent, EarthOther, Live, RoofLive, Snow, Rain, Wind, Earthquake, Flood, Ice, WindOnIce, SelfStraining}
+use Rattle.standard.specs.Kinds.{number_of, kind_count}
 use Rattle.standard.specs.Combination.{case_count}
 use Rattle.envelope.specs.Places.{PlacesInRange}
 use Rattle.naming.specs.Sets.{lead_bit, lead_in, gathered_of}
 
--- ---- the cases of a run of kinds
--- there is room for each kind's cases
-pub gathered_small : (places : List ℕ) (factored first count : ℕ) → PlacesInRange places → 0 < first → first + count ≤ kind_count →
-    gathered_of places factored first count ≤ count * 2 ^ case_count
-unfolding gathered_of
-gathered_small places factored first count range h l =
-    sum_most count (2 ^ case_count) (λ i. when (has factored (first + i)) (get_or places (first + i) 0))
-    (λ i m. omega (arith, when_le (has factored (first + i)) (get_or places (first + i) 0), range.each (first + i) (omega arith) (omega arith)))
+-- ---- the cases of some kinds
+-- a kind has cases of its own
+pub numbered : (kind : Kind) → (0 < number_of kind) × (number_of kind < kind_count)
+numbered Dead = (omega arith, omega arith)
+numbered Fluid = (omega arith, omega arith)
+numbered EarthPermanent = (omega arith, omega arith)
+numbered EarthOther = (omega arith, omega arith)
+numbered Live = (omega arith, omega arith)
+numbered RoofLive = (omega arith, omega arith)
+numbered Snow = (omega arith, omega arith)
+numbered Rain = (omega arith, omega arith)
+numbered Wind = (omega arith, omega arith)
+numbered Earthquake = (omega arith, omega arith)
+numbered Flood = (omega arith, omega arith)
+numbered Ice = (omega arith, omega arith)
+numbered WindOnIce = (omega arith, omega arith)
+numbered SelfStraining = (omega arith, omega arith)
+
+-- those of the first n kinds of a list
+abbrev pub gathered_to : List ℕ → ℕ → List Kind → ℕ → ℕ
+gathered_to places factored kinds n =
+    sum n (λ i. when (has factored (number_of (get_or kinds i Dead))) (get_or places (number_of (get_or kinds i Dead)) 0))
+
+pub gathered_fit : (places : List ℕ) (factored : ℕ) (kinds : List Kind) (n : ℕ) → PlacesInRange places → gathered_to places factored kinds n ≤ n * 2 ^ case_count
+gathered_fit places factored kinds n range =
+    sum_most n (2 ^ case_count) (λ i. when (has factored (number_of (get_or kinds i Dead))) (get_or places (number_of (get_or kinds i Dead)) 0))
+    (λ i m.
+    let k = get_or kinds i Dead in
+    omega (arith, when_le (has factored (number_of k)) (get_or places (number_of k) 0), range.each (number_of k) (numbered k).0 (numbered k).1))
 
 -- one kind more
-gathered_more : (places : List ℕ) (factored first i set next : ℕ) → set ≡ gathered_of places factored first i → (t : Bool) → has factored (first + i) ≡ t →
-    next ≡ set + when t (get_or places (first + i) 0) → next ≡ gathered_of places factored first (i + 1)
-unfolding gathered_of sum
-gathered_more places factored first i set next e t h n = rw add-one (n ∙ (λ j. e j + when (sym h j) (get_or places (first + i) 0)))
-
-pub gathered_next : (places : List ℕ) (factored first kind set next : ℕ) → first ≤ kind → set ≡ gathered_of places factored first (kind - first) → (t : Bool) →
-    has factored kind ≡ t → next ≡ set + when t (get_or places kind 0) → next ≡ gathered_of places factored first (kind + 1 - first)
-gathered_next places factored first kind set next l e t h n =
-    let own : first + (kind - first) ≡ kind = omega arith in
-    let one : kind + 1 - first ≡ kind - first + 1 = omega arith in
-    rw one
-    (gathered_more places factored first (kind - first) set next e t (ap (λ (j : ℕ). has factored j) own ∙ h)
-    (n ∙ ap (λ (j : ℕ). set + when t (get_or places j 0)) (sym own)))
+pub gathered_next : (places : List ℕ) (factored : ℕ) (kinds : List Kind) (n set next : ℕ) → set ≡ gathered_to places factored kinds n → (t : Bool) →
+    has factored (number_of (get_or kinds n Dead)) ≡ t → next ≡ set + when t (get_or places (number_of (get_or kinds n Dead)) 0) → next ≡ gathered_to places factored kinds (n + 1)
+unfolding sum
+gathered_next places factored kinds n set next e t h m = rw add-one (m ∙ (λ j. e j + when (sym h j) (get_or places (number_of (get_or kinds n Dead)) 0)))
 
 -- ---- the sets named
 lead_below : (n : ℕ) (g : ℕ → ℕ) → lead_bit n g < 2 ^ n

@@ -1,9 +1,11 @@
 -- The sets of a row's best combination, as they are worked out from the cases of each kind.
-use Rattle.std.specs.Prelude.{ℕ, ◌+◌, ◌*◌, ◌<◌, ◌^◌, Bool, ◌&&◌, List, [], ◌∷◌, ltb, ℤ, get_or}
+use Rattle.std.specs.Prelude.{ℕ, ◌+◌, ◌*◌, ◌<◌, ◌^◌, Bool, ◌&&◌, List, [], ◌∷◌, ltb, length, ℤ, get_or}
 use Rattle.integers.specs.Sums.{when, sum, most, most_at, mask_of, up}
 use Rattle.integers.specs.Sets.{has}
 use Rattle.standard.specs.Columns.{kinds_in}
-use Rattle.standard.specs.Kinds.{group_count, fluid, self_straining}
+use Rattle.standard.specs.declared.Kind.{Kind}
+use Rattle.standard.specs.declared.Kind.TheVariants.{Dead}
+use Rattle.standard.specs.Kinds.{number_of, group_count, fluid, self_straining}
 use Rattle.standard.specs.Combination.{case_count}
 use Rattle.envelope.specs.declared.Sign.{Sign}
 use Rattle.envelope.specs.declared.Sign.TheVariants.{Minus}
@@ -29,6 +31,11 @@ lead_in p x n = lead_bit n (λ k. when (p k) (up (x k)))
 -- the cases of the kinds from `first` on, `count` of them, that are among the kinds of a set
 unfoldable pub gathered_of : List ℕ → (factored first count : ℕ) → ℕ
 gathered_of places factored first count = sum count (λ i. when (has factored (first + i)) (get_or places (first + i) 0))
+
+-- the cases of some kinds that are among the kinds of a set
+unfoldable pub gathered_in : List ℕ → (factored : ℕ) → List Kind → ℕ
+gathered_in places factored kinds =
+    sum (length kinds) (λ i. when (has factored (number_of (get_or kinds i Dead))) (get_or places (number_of (get_or kinds i Dead)) 0))
 
 -- by group
 abbrev pub group_sets : List ℕ → ℕ → List ℕ

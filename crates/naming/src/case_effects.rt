@@ -1,10 +1,11 @@
 ghost use Rattle.std.specs.Prelude.{◌≡◌, ℕ, ◌<◌, ◌≤◌, ℤ, nat_abs};
 ghost use Rattle.standard.specs.Combination.{case_count};
-ghost use Rattle.envelope.specs.Range.{effect_of, component_count, effect_most, WeightsInRange};
+ghost use Rattle.envelope.specs.Range.{effect_of, effect_most, WeightsInRange};
+ghost use Rattle.envelope.specs.Components.{number_of_component};
 ghost use Rattle.envelope.specs.Signs.{signed};
 ghost use Rattle.envelope.specs.Envelope.{weighed};
 
-use envelope::{Sign, StationEffects, Weights};
+use envelope::{Component, Sign, StationEffects, Weights};
 
 // The effects of the load cases on what is maximised.
 pub trait CaseEffects: Copy {
@@ -20,13 +21,12 @@ pub trait CaseEffects: Copy {
 #[derive(Clone, Copy)]
 pub struct OnComponent<'a> {
     pub effects: StationEffects<'a>,
-    pub component: usize,
+    pub component: Component,
     pub sign: Sign,
-    pub ghost is_one: { component < component_count },
 }
 
 impl<'a> CaseEffects for OnComponent<'a> {
-    ghost effect = { λ s k. signed s.sign (effect_of s.effects.all.now k s.component) };
+    ghost effect = { λ s k. signed s.sign (effect_of s.effects.all.now k (number_of_component s.component)) };
 
     fn effect_of(self, case: usize) -> i64 {
         self.sign.of(self.effects.on(case, self.component))
@@ -45,9 +45,9 @@ impl<'a> CaseEffects for Weighed<'a> {
     ghost effect = { λ s. weighed s.weights (effect_of s.effects.all.now) };
 
     fn effect_of(self, case: usize) -> i64 {
-        let n = self.effects.on(case, 0);
-        let y = self.effects.on(case, 1);
-        let z = self.effects.on(case, 2);
+        let n = self.effects.on(case, Component::N);
+        let y = self.effects.on(case, Component::Y);
+        let z = self.effects.on(case, Component::Z);
         self.weights.n * n + self.weights.y * y + self.weights.z * z
     }
 }

@@ -1,18 +1,16 @@
-ghost use Rattle.std.specs.Prelude.{◌<◌};
-ghost use Rattle.envelope.specs.Range.{component_count};
+ghost use Rattle.envelope.specs.Components.{number_of_component};
 
-use envelope::StationEffects;
+use envelope::{Component, StationEffects};
 use sums::Reading;
 
 // The effects on one component, read as they are.
 #[derive(Clone, Copy)]
 pub struct OneComponent {
-    pub component: usize,
-    pub ghost is_one: { component < component_count },
+    pub component: Component,
 }
 
 impl Reading<1> for OneComponent {
-    ghost along = { λ x effect d k. effect k x.component };
+    ghost along = { λ x effect d k. effect k (number_of_component x.component) };
 
     fn of_case(self, effects: StationEffects<'_>, case: usize) -> [i64; 1] {
         [effects.on(case, self.component)]

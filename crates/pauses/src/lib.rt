@@ -3,33 +3,37 @@
 #![tactic(auto)]
 
 ghost use Rattle.std.specs.Prelude.{◌≤◌};
+ghost use Rattle.std.specs.Duration.{as_nanos};
 
 use std::thread;
 use std::time::{Clock, Duration};
 
-const FIRST: u32 = 50_000;
+// In microseconds.
+const FIRST: u64 = 50;
 
-const LONGEST: u32 = 6_400_000;
+const LONGEST: u64 = 6400;
 
 /// How long to wait where a call cannot go on for now: from 0.05 ms on twice as long each time, up to 6.4 ms.
 #[derive(Clone, Copy, PartialEq, Eq, Debug)]
 pub struct Pause {
-    nanoseconds: u32,
-    ghost short: { nanoseconds ≤ 6400000 },
+    time: Duration,
+    ghost short: { as_nanos time ≤ 6400000 },
 }
 
 impl Pause {
     pub fn first() -> Pause {
-        Pause { nanoseconds: FIRST }
+        Pause {
+            time: Duration::from_micros(FIRST),
+        }
     }
 
     pub fn longer(self) -> Pause {
         Pause {
-            nanoseconds: (self.nanoseconds * 2).min(LONGEST),
+            time: (self.time * 2).min(Duration::from_micros(LONGEST)),
         }
     }
 
     pub fn wait(self, clock: &impl Clock) {
-        thread::sleep(clock, Duration::from_nanos(u64::from(self.nanoseconds)));
+        thread::sleep(clock, self.time);
     }
 }

@@ -3,22 +3,26 @@
 
 #![tactic(auto)]
 
-ghost use Rattle.std.specs.Prelude.{◌<◌};
+ghost use Rattle.std.specs.Prelude.{◌≤◌, length};
 
-use recheck_bytes::{byte_at, index_at, number_at};
+use recheck_bytes::{byte_at, index_at, number_at, word_at};
 use recheck_combinations::{Capacities, Case, Component, Effects, Figure, times};
 use recheck_enumeration::{Look, Named, all_between, is_large, reaches};
 use recheck_refusals::accepted_tag;
-use recheck_sheet::{CASES, STATIONS, Tag, Triple, WorkingSheet};
+use recheck_sheet::{
+    ACCEPTED, CASES, EXTREMES, REFUSED, STATIONS, Tag, Triple, UTILISATION, WorkingSheet,
+};
 use recheck_tally::Outcome;
 
 // What was seen of a reading: whether the answer is right, and what the reading was.
+// Stays: a bool beside the outcome, since a wrong answer is counted by what the reading was, as a right one is.
 #[derive(Clone, Copy)]
 pub struct Seen {
     pub ok: bool,
     pub outcome: Outcome,
 }
 
+// Stays: a function, since both types are of other crates.
 fn signed(t: Triple) -> Effects {
     Effects {
         n: t.n.cast_signed(),
@@ -28,6 +32,7 @@ fn signed(t: Triple) -> Effects {
 }
 
 // The cases as a station sees them.
+// Stays: remainders of stations here and below, which change none that an accepted look has, and need no clause.
 fn cases_at(w: &WorkingSheet, station: usize) -> [Case; CASES] {
     let place = station % STATIONS;
     w.places.map(|p| Case {
@@ -36,22 +41,22 @@ fn cases_at(w: &WorkingSheet, station: usize) -> [Case; CASES] {
     })
 }
 
-// Row, acting cases and low cases as an answer names them from `at` on, and the figure beside them.
-fn named_at(answer: &[u8], at: usize, figure: i64) -> Named
-    requires { at < 100 }
-{
+// Row, acting cases and low cases as an answer names them, in nine bytes, and the figure beside them.
+fn named(part: &[u8], figure: i64) -> Named {
     Named {
-        row: byte_at(answer, at),
-        acting: number_at(answer, at + 1, 4),
-        low: number_at(answer, at + 5, 4),
+        row: byte_at(part, 0),
+        acting: u64::from(word_at(part, 1)),
+        low: u64::from(word_at(part, 5)),
         figure,
     }
 }
 
-fn signed_at(answer: &[u8], at: usize) -> i64
-    requires { at < 100 }
+// An extreme: the figure, in eight bytes, and the combination named.
+fn extreme(part: &[u8]) -> Named
+    requires { 8 ≤ length part.now }
 {
-    number_at(answer, at, 8).cast_signed()
+    let (figure, combination) = part.split_at(8);
+    named(combination, number_at(figure, 0).cast_signed())
 }
 
 // Whether every admissible combination is between the ends; of a sheet too large for that, that the ends are in order.
@@ -68,17 +73,18 @@ fn is_extremes(w: &WorkingSheet, field: &[u8], answer: &[u8]) -> bool {
     let Ok(component) = Component::try_from(byte_at(field, 4)) else {
         return false;
     };
+    if answer.len() != 37 || !answer.starts_with(&[EXTREMES, 0, 34]) {
+        return false;
+    }
+    let maximum = extreme(&answer[3..20]);
+    let minimum = extreme(&answer[20..]);
     let cases = cases_at(w, index_at(field, 3));
     let look = Look {
         figure: Figure::Effect(component),
-        least: signed_at(answer, 20),
-        greatest: signed_at(answer, 3),
+        least: minimum.figure,
+        greatest: maximum.figure,
     };
-    let header = answer.len() == 37 && answer.starts_with(b"\x86\x00\x22");
-    let maximum = named_at(answer, 11, look.greatest);
-    let minimum = named_at(answer, 28, look.least);
-    header
-        && reaches(look, w.options, &cases, maximum)
+    reaches(look, w.options, &cases, maximum)
         && reaches(look, w.options, &cases, minimum)
         && is_bounded(look, w, &cases)
 }
@@ -101,18 +107,20 @@ fn is_utilisation(w: &WorkingSheet, field: &[u8], answer: &[u8]) -> bool {
         bending_y: u64::from(triple.my),
         bending_z: u64::from(triple.mz),
     };
+    if answer.len() != 29 || !answer.starts_with(&[UTILISATION, 0, 26]) {
+        return false;
+    }
+    let numerator = number_at(answer, 3);
+    let denominator = number_at(answer, 11);
     let cases = cases_at(w, station);
     let look = Look {
         figure: Figure::Numerator(capacities),
         least: 0,
-        greatest: signed_at(answer, 3),
+        greatest: numerator.cast_signed(),
     };
-    let numerator = number_at(answer, 3, 8);
-    let denominator = number_at(answer, 11, 8);
-    let header = answer.len() == 29 && answer.starts_with(b"\x87\x00\x1a");
-    header
-        && is_share(capacities, numerator, denominator, byte_at(answer, 19))
-        && reaches(look, w.options, &cases, named_at(answer, 20, look.greatest))
+    let combination = named(&answer[20..], look.greatest);
+    is_share(capacities, numerator, denominator, byte_at(answer, 19))
+        && reaches(look, w.options, &cases, combination)
         && is_bounded(look, w, &cases)
 }
 
@@ -125,10 +133,12 @@ fn look_outcome(w: &WorkingSheet) -> Outcome {
 }
 
 // Checks the answer to one reading: a whole field, or one cut short.
+// Stays: field and answer apart, here and in the calls compared: of a struct of both slices a clause must say at which moment it is meant, which
+// is no plainer.
 pub fn check_answer(w: &WorkingSheet, field: &[u8], answer: &[u8]) -> Seen {
     match accepted_tag(w, field) {
         Err(refusal) => Seen {
-            ok: answer == [0x81, 0, 1, u8::from(refusal)].as_slice(),
+            ok: answer == [REFUSED, 0, 1, u8::from(refusal)].as_slice(),
             outcome: Outcome::Refusal,
         },
         Ok(Tag::Extremes) => Seen {
@@ -140,7 +150,7 @@ pub fn check_answer(w: &WorkingSheet, field: &[u8], answer: &[u8]) -> Seen {
             outcome: look_outcome(w),
         },
         Ok(_) => Seen {
-            ok: answer == b"\x80\x00\x00".as_slice(),
+            ok: answer == [ACCEPTED, 0, 0].as_slice(),
             outcome: Outcome::Edit,
         },
     }

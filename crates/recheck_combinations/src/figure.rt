@@ -15,14 +15,15 @@ pub enum Component {
 pub struct NoComponent;
 
 // An effect for each component.
-#[derive(Clone, Copy, Default)]
+// Stays: beside `Capacities` and `Triple` of recheck_sheet, since effects have a sign and capacities are multiplied in 64 bits.
+#[derive(Clone, Copy, Debug, Default, PartialEq, Eq)]
 pub struct Effects {
     pub n: i16,
     pub my: i16,
     pub mz: i16,
 }
 
-#[derive(Clone, Copy)]
+#[derive(Clone, Copy, Debug, PartialEq, Eq)]
 pub struct Capacities {
     pub axial: u64,
     pub bending_y: u64,
@@ -30,7 +31,7 @@ pub struct Capacities {
 }
 
 // A component's factored effect, or the numerator of the utilisation.
-#[derive(Clone, Copy)]
+#[derive(Clone, Copy, Debug, PartialEq, Eq)]
 pub enum Figure {
     Effect(Component),
     Numerator(Capacities),
@@ -63,7 +64,8 @@ impl Effects {
     }
 }
 
-// The product of two numbers below 2^32, as all here are; the remainders are taken only to show that it fits.
+// The product of two numbers below 2^32, as all here are.
+// Stays: remainders, by which it is stated as a product that fits; `wrapping_mul` would state it modulo 2^64.
 pub fn times(a: u64, b: u64) -> u64
     ensures { result ≡ a % 4294967296 * (b % 4294967296) }
 {

@@ -7,12 +7,10 @@ ghost use Rattle.recheck_rows.specs.Rows.{low_factor_of};
 ghost use Rattle.recheck_combinations.specs.Acting.{kinds_of, factors_of, is_of, having, rules_of, within, all_or_none, at_most_one, may_act, may_be_low, Factors};
 
 pub use figure::{Capacities, Component, Effects, Figure, NoComponent, times};
+pub use recheck_rows::CASES;
 use recheck_rows::Options;
 
 mod figure;
-
-// How many places a sheet has.
-pub const CASES: usize = 32;
 
 // A place as one station sees it: the kind of its load case, where there is one, and the case's effects.
 #[derive(Clone, Copy, Default)]
@@ -52,7 +50,7 @@ pub struct Row {
 }
 
 // Whether the case is in the set.
-fn has(set: u64, case: usize) -> bool
+pub fn has(set: u64, case: usize) -> bool
     requires { case < 64 }
 {
     set >> case & 1 == 1
@@ -70,6 +68,7 @@ fn terms_in(cases: &[Case; CASES], options: Options, row: u8) -> [Term; CASES]
 
 impl Term {
     // Whether the place has a factor and a case of kinds `first` to `last`.
+    // Stays: 0 for an empty place, as in the statement; `is_some_and` would have to ask here and in `having` that `first` is not 0.
     fn is_of(self, first: u8, last: u8) -> bool
         ensures { result ≡ is_of self first last }
     {
@@ -78,6 +77,7 @@ impl Term {
 }
 
 // The set of cases of kinds `first` to `last` that have a factor.
+// Stays: kinds by their numbers, since a place may hold a byte that stands for none, and the statement of the rules goes by runs of them.
 fn having(terms: &[Term; CASES], first: u8, last: u8) -> u64
     ensures { result ≡ having (kinds_of terms.now) (factors_of terms.now) first last 32 }
 {

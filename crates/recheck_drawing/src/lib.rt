@@ -5,7 +5,8 @@
 ghost use Rattle.std.specs.Prelude.{◌≡◌, ◌<◌, ◌≤◌, length};
 
 use recheck_bytes::{byte_at, zeros};
-use recheck_names::{Name, after_field, name_of};
+use recheck_names::{Name, name_of, split_field};
+use recheck_tally::counted;
 use std::iter::once;
 
 // Counts for the summary: how often the name of a case in a file was compared, how often there was one, and how often the readers differ.
@@ -16,13 +17,18 @@ pub struct Compared {
     pub failed: u64,
 }
 
+// Whether the library finds the case's name at this place.
+// Stays: compared number by number, since the library's place and the second program's name are types of their own.
+fn is_at(file: &[u8], case: u8, own: Name) -> bool {
+    let place = drawing::name_place(file, case);
+    place.from == own.from && place.len == own.len
+}
+
 // Whether the library gives the place, the length and the bytes of the case's name as the second program does.
 fn agrees(file: &[u8], case: u8, own: Option<Name>) -> bool {
     let own = own.unwrap_or_default();
-    let place = drawing::name_place(file, case);
     let name = drawing::case_name(file, case);
-    place.from == own.from
-        && place.len == own.len
+    is_at(file, case, own)
         && name.len() == own.len
         && file
             .get(own.from..)
@@ -30,65 +36,53 @@ fn agrees(file: &[u8], case: u8, own: Option<Name>) -> bool {
 }
 
 impl Compared {
-    // The counts wrap: no run comes near 2^64.
-    fn add_case(&mut self, file: &[u8], case: u8)
-        requires { length file.now < 1000000 }
-    {
+    fn add_case(&mut self, file: &[u8], case: u8) {
         let own = name_of(file, case);
-        self.cases = self.cases.wrapping_add(1);
-        self.names = self.names.wrapping_add(u64::from(own.is_some()));
-        self.failed = self
-            .failed
-            .wrapping_add(u64::from(!agrees(file, case, own)));
+        self.cases = counted(self.cases, true);
+        self.names = counted(self.names, own.is_some());
+        self.failed = counted(self.failed, !agrees(file, case, own));
     }
 
     // Every case that there is, and some above.
-    fn add_cases(&mut self, file: &[u8])
-        requires { length file.now < 1000000 }
-    {
+    fn add_cases(&mut self, file: &[u8]) {
         for case in (0..34).chain(once(255)) {
             self.add_case(file, case);
         }
     }
 
     // The fronts of 0 to 40 bytes: the first field cut at each place, and what follows a short one.
-    fn add_fronts(&mut self, file: &[u8])
-        requires { length file.now < 1000000 }
-    {
+    fn add_fronts(&mut self, file: &[u8]) {
         for n in 0..=file.len().min(40) {
             self.add_cases(&file[..n]);
         }
     }
 
-    // A field of the stored input, which ends where the next begins: cut and as the first of a file, and as the end of one, whole and
-    // without its last byte. In the long files the case is the byte that stands where a name has it.
-    fn add_field(&mut self, stored: &[u8], at: usize, next: usize)
-        requires at_le_next { at ≤ next }
-        requires next_in_bounds { next ≤ length stored.now }
-        requires stored_len_bound { length stored.now < 1000000 }
+    // A field of the stored input, from which on the input has `here`, and `rest` after it: cut and as the first of a file, and as the end
+    // of one, whole and without its last byte. In the long files the case is the byte that stands where a name has it.
+    fn add_field(&mut self, stored: &[u8], here: &[u8], rest: &[u8])
+        requires { length rest.now ≤ length stored.now }
     {
-        let case = byte_at(stored, at + 3);
-        self.add_fronts(&stored[at..]);
-        self.add_case(&stored[at..], case);
-        self.add_case(&stored[..next], case);
-        self.add_case(&stored[..next.saturating_sub(1)], case);
+        let case = byte_at(here, 3);
+        let end = stored.len() - rest.len();
+        self.add_fronts(here);
+        self.add_case(here, case);
+        self.add_case(&stored[..end], case);
+        self.add_case(&stored[..end.saturating_sub(1)], case);
     }
 }
 
-// The stored input, and files made of it at each of its fields.
-pub fn compare_names(stored: &[u8]) -> Compared
-    requires { length stored.now < 1000000 }
-{
+// The stored input, and files made of it at each of its fields and where no whole field follows.
+// Stays: while let, since what is left after the last whole field is compared too.
+pub fn compare_names(stored: &[u8]) -> Compared {
     let mut compared = Compared::default();
     compared.add_cases(stored);
-    let mut at = 0;
-    for _field in 0..stored.len() {
-        let next = after_field(stored, at);
-        compared.add_field(stored, at, next);
-        if next == at {
-            return compared;
-        }
-        at = next;
+    let mut here = stored;
+    while let Some((_, rest)) = split_field(here) {
+        compared.add_field(stored, here, rest);
+        here = rest;
+    }
+    if !stored.is_empty() {
+        compared.add_field(stored, here, here);
     }
     compared
 }
@@ -106,19 +100,11 @@ const WORKED: [u8; 81] = *b"\
     \x60\x00\x1A\x01AAAAAAAAAAAAAAAAAAAAAAAAA\
     \x60\x00\x02\x01X";
 
-// Whether the library finds the case's name at this place.
-fn is_at(file: &[u8], case: u8, from: usize, len: usize) -> bool {
-    let place = drawing::name_place(file, case);
-    place.from == from && place.len == len
-}
-
 // Whether cases 0 and 1 have their names there, and no other case has one.
-fn has_two(file: &[u8], first: usize, second: usize) -> bool
-    requires { length file.now < 1000000 }
-{
+fn has_two(file: &[u8], first: Name, second: Name) -> bool {
     let mut all = Compared::default();
     all.add_cases(file);
-    is_at(file, 0, first, 5) && is_at(file, 1, second, 1) && all.names == 2 && all.failed == 0
+    is_at(file, 0, first) && is_at(file, 1, second) && all.names == 2 && all.failed == 0
 }
 
 // The front of a file, and the name `B` from a place on.
@@ -138,7 +124,7 @@ fn finds_past(front: &[u8], end: usize, from: usize) -> bool
 {
     let mut file = zeros::<60014>();
     put_names(&mut file, front, end);
-    is_at(&file, 0, from, 1)
+    is_at(&file, 0, Name { from, len: 1 })
 }
 
 // Whether the name `B` is found after a field of length 60,000, and the name `A` before one of 60,001.
@@ -150,5 +136,8 @@ fn long_fields_agree() -> bool {
 // The worked file cut and whole, and the files with a long field.
 pub fn worked_files_agree() -> bool {
     let file = WORKED;
-    has_two(&file[..80], 42, 23) && has_two(&file, 42, 80) && long_fields_agree()
+    let roof = Name { from: 42, len: 5 };
+    let live = Name { from: 23, len: 1 };
+    let last = Name { from: 80, len: 1 };
+    has_two(&file[..80], roof, live) && has_two(&file, roof, last) && long_fields_agree()
 }

@@ -5,7 +5,7 @@
 
 ghost use Rattle.std.specs.Prelude.{◌<◌, ◌≤◌};
 
-use recheck_combinations::{CASES, Case, Figure, Row};
+use recheck_combinations::{CASES, Case, Figure, Row, has};
 use recheck_rows::Options;
 use std::array::from_fn;
 
@@ -36,6 +36,7 @@ pub struct Named {
 }
 
 // The set of filled places.
+// Stays: beside `having` of recheck_combinations, as that asks for the kinds and the factor of a place in a row.
 fn filled(cases: &[Case; CASES]) -> u64 {
     let mut set = 0;
     for (place, case) in cases.iter().enumerate() {
@@ -56,7 +57,7 @@ fn subset(all: u64, number: usize) -> u64 {
     let mut set = 0;
     let mut picks = number;
     for place in 0..CASES {
-        if all >> place & 1 == 1 {
+        if has(all, place) {
             if picks % 2 == 1 {
                 set |= 1 << place;
             }
@@ -84,12 +85,10 @@ pub fn all_between(look: Look, options: Options, cases: &[Case; CASES]) -> bool 
     let all = filled(cases);
     let sets: [u64; SUBSETS] = from_fn(|number| subset(all, number));
     let sets = &sets[..1 << all.count_ones().min(SMALL)];
-    for row in (0..ROWS).filter(|row| options.opens(*row)) {
-        if !row_between(look, &Row::new(options, row, cases), sets) {
-            return false;
-        }
-    }
-    true
+    (0..ROWS)
+        .filter(|row| options.opens(*row))
+        .map(|row| Row::new(options, row, cases))
+        .all(|row| row_between(look, &row, sets))
 }
 
 // Whether the combination named is admissible and gives exactly the figure beside it.

@@ -1,15 +1,12 @@
 ghost use Rattle.std.specs.Prelude.{◌≤◌, length};
 
-use crate::ROOM;
-use recheck_bytes::{UNWRITTEN, zeros};
-
-// The calls of `frames_c` are given more bytes to save into than any sheet has.
-const SAVED_ROOM: usize = 8192;
+use recheck_bytes::{LIST_ROOM, SAVED_ROOM, UNWRITTEN, zeros};
 
 // A list run from a fresh sheet: the bytes of its answers, so many of them, and what is saved.
+// Stays: arrays with a length beside each, since the call fills arrays, and what it leaves unwritten of the saved form is compared too.
 #[derive(Drop)]
 pub struct Ran {
-    answers: [u8; ROOM],
+    answers: [u8; LIST_ROOM],
     written: usize,
     saved: [u8; SAVED_ROOM],
     count: usize,
@@ -19,10 +16,10 @@ pub struct Ran {
 impl Ran {
     // Nothing where the run is refused.
     pub fn of(list: &[u8]) -> Option<Self> {
-        let mut answers = zeros::<ROOM>();
+        let mut answers = zeros::<LIST_ROOM>();
         let mut saved = [UNWRITTEN; SAVED_ROOM];
         let r = frames_c::frames_run(b"", list, &mut answers, &mut saved);
-        if r.refusal != 0 || r.written > ROOM {
+        if r.refusal != 0 || r.written > LIST_ROOM {
             return None;
         }
         Some(Ran {

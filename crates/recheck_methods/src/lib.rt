@@ -6,26 +6,28 @@
 ghost use Rattle.std.specs.Prelude.{◌≡◌, ◌<◌, ◌&&◌, length};
 ghost use Rattle.recheck_bytes.specs.Bytes.{filled_up_to, same_up_to};
 ghost use Rattle.sheet.specs.Range.{InRange};
+ghost use Rattle.recheck_methods.specs.Held.{held_at, held_sums};
 
 mod answer;
 
 use answer::answer_is;
-use recheck_bytes::{UNWRITTEN, byte_at, filled_from, pair_at, same_at};
+use recheck_bytes::{UNWRITTEN, byte_at, filled_from, pair_at, same_front};
 use recheck_saving::SavedForm;
-use recheck_sheet::{Tag, WorkingSheet};
+use recheck_sheet::{Tag, WorkingSheet, whole_tag};
 use recheck_sums::{SUMS, sums_are, sums_of};
-use refusals::Refusal;
+use refusals::{EffectWords, Refusal};
 use sheet::{Answered, Sheet};
+use standard::Capacities;
+use std::array::from_fn;
 
 // More bytes than any saved form has.
 const ROOM: usize = 5969;
 
 // Whether the output has these bytes, and no more are written.
 pub fn holds(out: &[u8], bytes: &[u8]) -> bool
-    requires { length bytes.now < 6000 }
     ensures { result ≡ same_up_to bytes.now out.now 0 (length bytes.now) && filled_up_to 238 out.now (length bytes.now) (length out.now) }
 {
-    same_at(out, 0, bytes) & filled_from(out, bytes.len(), UNWRITTEN)
+    same_front(out, bytes) && filled_from(out, bytes.len(), UNWRITTEN)
 }
 
 // What the library's sheet must have, by the working sheet: the saved form and the sums.
@@ -33,6 +35,27 @@ pub fn holds(out: &[u8], bytes: &[u8]) -> bool
 pub struct Due {
     pub form: SavedForm,
     pub sums: [i64; SUMS],
+}
+
+// The sum that the library's sheet holds at an index of recheck_sums.
+// Stays: by index, since the list is compared with that of recheck_sums, which goes by it.
+fn held_at(sheet: &Sheet, i: usize) -> i64
+    requires { i < 96 }
+    ensures { result ≡ held_at sheet.now i }
+{
+    let station = sheet.sums[i / 6];
+    if i % 6 < 3 {
+        station.dead[i % 3]
+    } else {
+        station.fluid[i % 3]
+    }
+}
+
+// All of them.
+pub fn held_sums(sheet: &Sheet) -> [i64; SUMS]
+    ensures { result ≡ held_sums sheet.now }
+{
+    from_fn(|i| held_at(sheet, i))
 }
 
 impl Due {
@@ -45,7 +68,7 @@ impl Due {
 
     // Whether the sheet is saved in this form and holds these sums.
     pub fn is_met(&self, sheet: Sheet) -> bool {
-        saved_agrees(sheet, self.form.bytes()) && sums_are(&self.sums, &sheet.sums)
+        saved_agrees(sheet, self.form.bytes()) && sums_are(&self.sums, &held_sums(&sheet))
     }
 }
 
@@ -71,14 +94,6 @@ fn saved_agrees(sheet: Sheet, own: &[u8]) -> bool
     refused && count == own.len() && holds(&out, own)
 }
 
-// The tag of a field whose length is its tag's. No other field has a method.
-fn whole_tag(field: &[u8]) -> Option<Tag> {
-    let tag = Tag::try_from(byte_at(field, 0)).ok()?;
-    let length = pair_at(field, 1);
-    let whole = tag.takes(length) && field.len() == 3 + usize::from(length);
-    whole.then_some(tag)
-}
-
 // The field's method.
 fn by_method(tag: Tag, sheet: Sheet, field: &[u8]) -> Answered
     requires { InRange sheet }
@@ -91,16 +106,20 @@ fn by_method(tag: Tag, sheet: Sheet, field: &[u8]) -> Answered
         Tag::Effects => sheet.replace_effects(
             first,
             second,
-            pair_at(field, 5),
-            pair_at(field, 7),
-            pair_at(field, 9),
+            EffectWords {
+                n: pair_at(field, 5),
+                y: pair_at(field, 7),
+                z: pair_at(field, 9),
+            },
         ),
         Tag::Empty => sheet.empty(first),
         Tag::Capacities => sheet.replace_capacities(
             first,
-            pair_at(field, 4),
-            pair_at(field, 6),
-            pair_at(field, 8),
+            Capacities {
+                n: pair_at(field, 4),
+                y: pair_at(field, 6),
+                z: pair_at(field, 8),
+            },
         ),
         Tag::Extremes => sheet.look_extremes(first, second),
         Tag::Utilisation => sheet.look_utilisation(first),
@@ -114,6 +133,7 @@ fn by_method(tag: Tag, sheet: Sheet, field: &[u8]) -> Answered
 pub fn method_agrees(sheet: Sheet, field: &[u8], answer: &[u8], due: &Due) -> bool
     requires { InRange sheet }
 {
+    // no other field has a method
     let Some(tag) = whole_tag(field) else {
         return true;
     };

@@ -1,7 +1,9 @@
 -- SCOPE 9.6 and 9.7: the fields of a file by their places, the name of a case, and the file without its names.
-use Rattle.std.specs.Prelude.{ℕ, zero, suc, ◌+◌, ◌-◌, List, [], ◌++◌, Bool, cond, ◌&&◌, ◌||◌, eqb, ltb, length, take, drop, Option, Some, None}
+use Rattle.std.specs.Prelude.{ℕ, zero, suc, ◌+◌, ◌-◌, List, [], ◌++◌, Bool, true, false, cond, ◌&&◌, ◌||◌, eqb, ltb, length, take, drop, Option, Some, None}
 use Rattle.recheck_bytes.specs.Bytes.{byte_at, pair_at}
 use Rattle.recheck_names.specs.declared.Name.{Name}
+use Rattle.recheck_names.specs.declared.LeftOut.{LeftOut}
+use Rattle.recheck_names.specs.declared.LeftOut.TheVariants.{Names, All}
 
 -- a whole field begins here: its header and its body lie within the file, and its length is at most 60,000
 unfoldable pub is_whole : List ℕ → ℕ → Bool
@@ -45,19 +47,24 @@ last_name file case (suc n) = cond (names_case file (field_place file n) case) (
 abbrev pub name_of : List ℕ → ℕ → Option Name
 name_of file case = cond (ltb case 32) (last_name file case (length file)) None
 
--- SCOPE 9.7: a whole tag 60 that is left out: one that a reading accepts, and with `refused` also those refused with 2 or 5
-unfoldable pub is_left_out : List ℕ → Bool → ℕ → Bool
-is_left_out file refused at = is_tag60 file at && (refused || (is_name_length (pair_at file (at + 1)) && ltb (byte_at file (at + 3)) 32))
+-- SCOPE 9.7: whether those that a reading refuses with 2 or 5 are left out too
+abbrev pub takes_refused : LeftOut → Bool
+takes_refused Names = false
+takes_refused All = true
+
+-- a whole tag 60 that is left out: one that a reading accepts, or one that it refuses where these are
+unfoldable pub is_left_out : List ℕ → LeftOut → ℕ → Bool
+is_left_out file left_out at = is_tag60 file at && (takes_refused left_out || (is_name_length (pair_at file (at + 1)) && ltb (byte_at file (at + 3)) 32))
 
 -- what is kept of the field here
-unfoldable pub kept_at : List ℕ → Bool → ℕ → List ℕ
-kept_at file refused at = cond (is_left_out file refused at) [] (take (after_field file at - at) (drop at file))
+unfoldable pub kept_at : List ℕ → LeftOut → ℕ → List ℕ
+kept_at file left_out at = cond (is_left_out file left_out at) [] (take (after_field file at - at) (drop at file))
 
 -- what is kept of so many fields
-unfoldable pub kept_up_to : List ℕ → Bool → ℕ → List ℕ
-kept_up_to file refused zero = []
-kept_up_to file refused (suc n) = kept_up_to file refused n ++ kept_at file refused (field_place file n)
+unfoldable pub kept_up_to : List ℕ → LeftOut → ℕ → List ℕ
+kept_up_to file left_out zero = []
+kept_up_to file left_out (suc n) = kept_up_to file left_out n ++ kept_at file left_out (field_place file n)
 
 -- all whole fields, then what follows them: a field that is cut, or one with a length above 60,000
-unfoldable pub without_names : List ℕ → Bool → List ℕ
-without_names file refused = kept_up_to file refused (length file) ++ drop (field_place file (length file)) file
+unfoldable pub without_names : List ℕ → LeftOut → List ℕ
+without_names file left_out = kept_up_to file left_out (length file) ++ drop (field_place file (length file)) file

@@ -1,14 +1,22 @@
--- What the calls leave, with what their callers need to go on.
-use Rattle.std.specs.Prelude.{ℕ, ◌+◌, ◌≤◌, ◌≡◌, List, ◌++◌, length, take}
-use Rattle.recheck_names.specs.Names.{after_field}
+-- SCOPE 9.6: the walk over the whole fields of a file, from each to the next.
+use Rattle.std.specs.Prelude.{ℕ, ◌+◌, ◌<◌, ◌≡◌, true, false, List, length, take, drop}
+use Rattle.recheck_names.specs.Names.{is_whole, after_field}
 
--- the place of the next field
-pub record Next (file : List ℕ) (at r : ℕ) : Type 0 where
-  pub place : r ≡ after_field file at
-  pub from : at ≤ r
-  pub to : r ≤ length file
+-- a whole field and what follows it
+pub record Split (here field rest : List ℕ) : Type 0 where
+  pub whole : is_whole here 0 ≡ true
+  pub field_is : field ≡ take (after_field here 0) here
+  pub rest_is : rest ≡ drop (after_field here 0) here
+  pub size : length field + length rest ≡ length here
+  pub some : 0 < length field
 
--- an output with these bytes after its first ones, and the place after them
-pub record Kept (kept before : List ℕ) (to r : ℕ) (after : List ℕ) : Type 0 where
-  pub place : r ≡ to + length kept
-  pub bytes : take r after ≡ take to before ++ kept
+-- the next whole field comes, and what follows it is left
+pub record Gives (before here left : List ℕ) : Type 0 where
+  pub here_is : here ≡ before
+  pub whole : is_whole before 0 ≡ true
+  pub left_is : left ≡ drop (after_field before 0) before
+
+-- no whole field is left
+pub record Ends (before left : List ℕ) : Type 0 where
+  pub whole : is_whole before 0 ≡ false
+  pub left_is : left ≡ before

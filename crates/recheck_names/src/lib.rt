@@ -1,32 +1,35 @@
 // Case names in the bytes of a file: the drawing office's reader (SCOPE 9.6) and the file without its names (SCOPE 9.7). No sheet is
-// looked at.
+// looked at. `here` is what a file has from a field on.
 
 #![tactic(auto)]
 
-ghost use Rattle.std.specs.Prelude.{◌≡◌, ◌+◌, ◌<◌, ◌≤◌, length, take};
-ghost use Rattle.recheck_bytes.specs.Bytes.{byte_at, pair_at};
-ghost use Rattle.recheck_names.specs.Names.{is_whole, after_field, is_name_length, is_tag60, names_case, name_here, last_name, name_of};
-ghost use Rattle.recheck_names.specs.Names.{is_left_out, kept_at, without_names};
-ghost use Rattle.recheck_names.specs.Results.{Next, Kept};
+ghost use Rattle.std.specs.Prelude.{◌≡◌, ◌-◌, ◌≤◌, false, length, drop, MatchOption};
+ghost use Rattle.recheck_bytes.specs.Bytes.{pair_at};
+ghost use Rattle.recheck_names.specs.Names.{is_whole, is_name_length, is_tag60, names_case, name_here, last_name, name_of};
+ghost use Rattle.recheck_names.specs.Names.{is_left_out, without_names};
+ghost use Rattle.recheck_names.specs.Results.{Split};
 
-use recheck_bytes::{byte_at, pair_at};
+use recheck_bytes::{BODY_MOST, Buffer, byte_at, pair_at};
+
+mod fields;
+
+pub use fields::Fields;
 
 pub const NAME_TAG: u8 = 0x60;
 
 // A name as a part of a file: its place and its length.
+// Stays: a place and a length, since they are compared with those that the calls of the library give.
 #[derive(Clone, Copy, Debug, Default, PartialEq, Eq)]
 pub struct Name {
     pub from: usize,
     pub len: usize,
 }
 
-// A place in a file of fewer than a million bytes.
-#[derive(Clone, Copy)]
-struct Place<'a> {
-    file: &'a [u8],
-    at: usize,
-    ghost in_file: { at ≤ length file.now },
-    ghost small: { length file.now < 1000000 },
+// Which whole fields of tag 60 are left out of a file: those that a reading accepts, or those too that it refuses with 2 or 5.
+#[derive(Clone, Copy, Debug, PartialEq, Eq)]
+pub enum LeftOut {
+    Names,
+    All,
 }
 
 // Whether so many bytes are a case and a name of 1 to 24 bytes.
@@ -36,126 +39,79 @@ pub fn is_name_length(body: u16) -> bool
     (2..=25).contains(&body)
 }
 
-impl Place<'_> {
-    fn byte(self, offset: usize) -> u8
-        requires { offset < 10 }
-        ensures { result ≡ byte_at self.entry.file.now (self.entry.at + offset) }
-    {
-        byte_at(self.file, self.at + offset)
-    }
-
-    // The length of its body, as the field here gives it.
-    fn body(self) -> u16
-        ensures { result ≡ pair_at self.entry.file.now (self.entry.at + 1) }
-    {
-        pair_at(self.file, self.at + 1)
-    }
-
-    // Whether a whole field begins here. Header and body lie within the file where the last byte does.
-    #[tactic(auto, unfolding(crate::specs::Names::is_whole))]
-    fn is_whole(self) -> bool
-        ensures { result ≡ is_whole self.entry.file.now self.entry.at }
-    {
-        let body = self.body();
-        body <= 60000 && self.at + 2 + usize::from(body) < self.file.len()
-    }
-
-    // Where the next field begins, or this place where no whole field begins here.
-    fn after(self) -> usize
-        ensures { Next self.entry.file.now self.entry.at result }
-    {
-        if self.is_whole() {
-            self.at + 3 + usize::from(self.body())
-        } else {
-            self.at
-        }
-    }
-
-    // Whether a whole tag 60 begins here.
-    #[tactic(auto, unfolding(crate::specs::Names::is_tag60))]
-    fn is_tag_60(self) -> bool
-        ensures { result ≡ is_tag60 self.entry.file.now self.entry.at }
-    {
-        self.is_whole() && self.byte(0) == NAME_TAG
-    }
-
-    // Whether the field here names the case.
-    #[tactic(auto, unfolding(crate::specs::Names::names_case))]
-    fn names_case(self, case: u8) -> bool
-        ensures { result ≡ names_case self.entry.file.now self.entry.at case }
-    {
-        self.is_tag_60() && is_name_length(self.body()) && self.byte(3) == case
-    }
-
-    // The name in the field here, where it names the case.
-    fn name_here(self, case: u8) -> Option<Name>
-        ensures { result ≡ name_here self.entry.file.now self.entry.at case }
-    {
-        if self.names_case(case) {
-            Some(Name {
-                from: self.at + 4,
-                len: usize::from(self.body()) - 1,
-            })
-        } else {
-            None
-        }
-    }
-
-    // Whether the field here is left out: a name, and where `refused` is set any whole tag 60.
-    #[tactic(auto, unfolding(crate::specs::Names::is_left_out))]
-    fn is_left_out(self, refused: bool) -> bool
-        ensures { result ≡ is_left_out self.entry.file.now refused self.entry.at }
-    {
-        let right = is_name_length(self.body()) && self.byte(3) < 32;
-        self.is_tag_60() && (refused || right)
-    }
-
-    // The field here, unless it is left out, put from a place on.
-    fn keep(self, refused: bool, out: &mut [u8], to: usize) -> usize
-        requires file_in_bounds { length self.file.now ≤ length out.old }
-        requires to_le_at { to ≤ self.at }
-        ensures kept { Kept (kept_at self.entry.file.now refused self.entry.at) out.old to result out.new }
-        ensures upper_bound { result ≤ after_field self.entry.file.now self.entry.at }
-    {
-        if self.is_left_out(refused) {
-            to
-        } else {
-            let end = self.after();
-            put(out, to, &self.file[self.at..end])
-        }
-    }
-}
-
-// Where the next field begins, or this place where no whole field begins here.
-pub fn after_field(file: &[u8], at: usize) -> usize
-    requires at_in_bounds { at ≤ length file.now }
-    requires file_len_bound { length file.now < 1000000 }
-    ensures { Next file.now at result }
+// The length of the body, as the field here gives it.
+fn body(here: &[u8]) -> u16
+    ensures { result ≡ pair_at here.now 1 }
 {
-    Place { file, at }.after()
+    pair_at(here, 1)
 }
 
-// Field after field, as far as they are whole.
+// Whether a whole field begins here. Header and body are there where the last byte is.
+#[tactic(auto, unfolding(crate::specs::Names::is_whole))]
+fn is_whole(here: &[u8]) -> bool
+    ensures { result ≡ is_whole here.now 0 }
+{
+    let body = body(here);
+    body <= BODY_MOST && 2 + usize::from(body) < here.len()
+}
+
+// The whole field that begins here and what follows it; none where no whole field begins.
+pub fn split_field(here: &[u8]) -> Option<(&[u8], &[u8])>
+    ensures { MatchOption result (is_whole here.now 0 ≡ false) (λ parts. Split here.now parts.0.now parts.1.now) }
+{
+    if is_whole(here) {
+        Some(here.split_at(3 + usize::from(body(here))))
+    } else {
+        None
+    }
+}
+
+// Whether a whole tag 60 begins here.
+#[tactic(auto, unfolding(crate::specs::Names::is_tag60))]
+fn is_tag_60(here: &[u8]) -> bool
+    ensures { result ≡ is_tag60 here.now 0 }
+{
+    is_whole(here) && byte_at(here, 0) == NAME_TAG
+}
+
+// Whether the field here names the case.
+#[tactic(auto, unfolding(crate::specs::Names::names_case))]
+fn names_case(here: &[u8], case: u8) -> bool
+    ensures { result ≡ names_case here.now 0 case }
+{
+    is_tag_60(here) && is_name_length(body(here)) && byte_at(here, 3) == case
+}
+
+// The name in the field here, where it names the case.
+// Stays: the file beside what it has from the field on, since a name is given by its place in the file.
+fn name_here(file: &[u8], here: &[u8], case: u8) -> Option<Name>
+    requires place { here.now ≡ drop (length file.now - length here.now) file.now }
+    requires in_file { length here.now ≤ length file.now }
+    ensures { result ≡ name_here file.now (length file.now - length here.now) case }
+{
+    if names_case(here, case) {
+        Some(Name {
+            from: file.len() - here.len() + 4,
+            len: usize::from(body(here)) - 1,
+        })
+    } else {
+        None
+    }
+}
+
+// The name in the last field that has one for the case. No field is whole after one that is not.
 fn last_name(file: &[u8], case: u8) -> Option<Name>
-    requires { length file.now < 1000000 }
     ensures { result ≡ last_name file.now case (length file.now) }
 {
     let mut found = None;
-    let mut at = 0;
-    for _field in 0..file.len() {
-        let here = Place { file, at };
-        if !here.is_whole() {
-            return found;
-        }
-        found = here.name_here(case).or(found);
-        at = here.after();
+    for here in Fields(file) {
+        found = name_here(file, here, case).or(found);
     }
     found
 }
 
 // The name that the file has for the case.
 pub fn name_of(file: &[u8], case: u8) -> Option<Name>
-    requires { length file.now < 1000000 }
     ensures { result ≡ name_of file.now case }
 {
     if case < 32 {
@@ -165,38 +121,30 @@ pub fn name_of(file: &[u8], case: u8) -> Option<Name>
     }
 }
 
-// Whether the field here is left out: a name, and where `refused` is set any whole tag 60.
-pub fn is_left_out(file: &[u8], refused: bool, at: usize) -> bool
-    requires at_in_bounds { at ≤ length file.now }
-    requires file_len_bound { length file.now < 1000000 }
-    ensures { result ≡ is_left_out file.now refused at }
+// Whether the field here is left out.
+#[tactic(auto, unfolding(crate::specs::Names::is_left_out))]
+pub fn is_left_out(here: &[u8], left_out: LeftOut) -> bool
+    ensures { result ≡ is_left_out here.now left_out 0 }
 {
-    Place { file, at }.is_left_out(refused)
+    let right = is_name_length(body(here)) && byte_at(here, 3) < 32;
+    is_tag_60(here) && (left_out == LeftOut::All || right)
 }
 
-// These bytes put from a place on; the place after them.
-fn put(out: &mut [u8], to: usize, part: &[u8]) -> usize
-    requires { to + length part.now ≤ length out.old }
-    ensures { Kept part.now out.old to result out.new }
+// The file without its names.
+// Stays: while let, since what follows the last whole field is put too.
+pub fn without_names<const N: usize>(file: &[u8], left_out: LeftOut) -> Buffer<N>
+    requires { length file.now ≤ N }
+    ensures bytes { result ≡ without_names file.now left_out }
+    ensures most { length result ≤ length file.now }
 {
-    let end = to + part.len();
-    out[to..end].copy_from_slice(part);
-    end
-}
-
-// The file without its names, put into the output; how many bytes it has.
-pub fn without_names(file: &[u8], refused: bool, out: &mut [u8]) -> usize
-    requires file_len_bound { length file.now < 1000000 }
-    requires file_in_bounds { length file.now ≤ length out.old }
-    ensures out_after { take result out.new ≡ without_names file.now refused }
-    ensures upper_bound { result ≤ length file.now }
-{
-    let mut at = 0;
-    let mut to = 0;
-    for _field in 0..file.len() {
-        let here = Place { file, at };
-        to = here.keep(refused, out, to);
-        at = here.after();
+    let mut out = Buffer::empty();
+    let mut here = file;
+    while let Some((field, rest)) = split_field(here) {
+        if !is_left_out(here, left_out) {
+            out.push(field);
+        }
+        here = rest;
     }
-    put(out, to, &file[at..])
+    out.push(here);
+    out
 }

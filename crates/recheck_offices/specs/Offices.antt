@@ -28,6 +28,11 @@ gives_effects field stations = is_field field 3 8 && is_chosen stations (byte_at
 unfoldable pub gives_capacities : List ℕ → Stations → Bool
 gives_capacities field stations = is_field field 5 7 && is_chosen stations (byte_at field 3)
 
+-- these or those, by what is asked
+abbrev pub given_by : Values → List ℕ → Stations → Bool
+given_by Effects field stations = gives_effects field stations
+given_by Capacities field stations = gives_capacities field stations
+
 -- a look at a chosen station
 unfoldable pub looks_at : List ℕ → Stations → Bool
 looks_at field stations = (is_field field 6 2 || is_field field 7 1) && is_chosen stations (byte_at field 3)

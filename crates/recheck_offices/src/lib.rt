@@ -3,18 +3,13 @@
 
 #![tactic(auto)]
 
-ghost use Rattle.std.specs.Prelude.{◌≡◌, ◌+◌, ◌<◌, length};
-ghost use Rattle.recheck_offices.specs.Offices.{is_field, is_chosen, others, gives_effects, gives_capacities, looks_at};
+ghost use Rattle.std.specs.Prelude.{◌≡◌, ◌≢◌, ◌+◌, ◌<◌, length};
+ghost use Rattle.recheck_offices.specs.Limits.{EffectWithin, CapacityWithin};
+ghost use Rattle.recheck_offices.specs.Offices.{is_chosen, others, given_by, looks_at};
 ghost use Rattle.recheck_offices.specs.Offices.{other_effect, other_capacity, other_value, with_pair, changed_pair, changed_three, changed, same_bytes, answers_agree};
 
 use recheck_bytes::{byte_at, pair_at};
-
-// Whether this is a whole field of the tag, with so many bytes in its body.
-pub fn is_field(field: &[u8], tag: u8, body: u16) -> bool
-    ensures { result ≡ is_field field.now tag body }
-{
-    field.len() == usize::from(body) + 3 && byte_at(field, 0) == tag && pair_at(field, 1) == body
-}
+use recheck_sheet::{Tag, whole_tag};
 
 // Chosen stations: one alone, or all others.
 #[derive(Clone, Copy, Debug, PartialEq, Eq)]
@@ -60,22 +55,21 @@ impl Values {
             Values::Capacities => other_capacity(value),
         }
     }
-}
 
-// Whether the field gives a case its effects at a chosen station.
-#[tactic(auto, unfolding(crate::specs::Offices::gives_effects))]
-fn gives_effects(field: &[u8], stations: Stations) -> bool
-    ensures { result ≡ gives_effects field.now stations }
-{
-    is_field(field, 3, 8) && stations.contain(byte_at(field, 4))
-}
-
-// Whether the field gives a chosen station its capacities.
-#[tactic(auto, unfolding(crate::specs::Offices::gives_capacities))]
-fn gives_capacities(field: &[u8], stations: Stations) -> bool
-    ensures { result ≡ gives_capacities field.now stations }
-{
-    is_field(field, 5, 7) && stations.contain(byte_at(field, 3))
+    // Whether the field gives a chosen station such values.
+    #[tactic(auto, unfolding(crate::specs::Offices::gives_effects, crate::specs::Offices::gives_capacities))]
+    fn given_by(self, field: &[u8], stations: Stations) -> bool
+        ensures { result ≡ given_by self field.now stations }
+    {
+        match self {
+            Values::Effects => {
+                whole_tag(field) == Some(Tag::Effects) && stations.contain(byte_at(field, 4))
+            }
+            Values::Capacities => {
+                whole_tag(field) == Some(Tag::Capacities) && stations.contain(byte_at(field, 3))
+            }
+        }
+    }
 }
 
 // Whether the field is a look at a chosen station.
@@ -83,12 +77,15 @@ fn gives_capacities(field: &[u8], stations: Stations) -> bool
 pub fn looks_at(field: &[u8], stations: Stations) -> bool
     ensures { result ≡ looks_at field.now stations }
 {
-    (is_field(field, 6, 2) || is_field(field, 7, 1)) && stations.contain(byte_at(field, 3))
+    let tag = whole_tag(field);
+    let looks = tag == Some(Tag::Extremes) || tag == Some(Tag::Utilisation);
+    looks && stations.contain(byte_at(field, 3))
 }
 
 // Another effect, within the limits where this one is.
 fn other_effect(effect: u16) -> u16
-    ensures { result ≡ other_effect effect }
+    ensures value { result ≡ other_effect effect }
+    ensures other { EffectWithin effect → EffectWithin result × (result ≢ effect) }
 {
     match effect {
         0..=10000 => effect.wrapping_sub(10000),
@@ -99,7 +96,8 @@ fn other_effect(effect: u16) -> u16
 
 // Another capacity, within the limits where this one is.
 fn other_capacity(capacity: u16) -> u16
-    ensures { result ≡ other_capacity capacity }
+    ensures value { result ≡ other_capacity capacity }
+    ensures other { CapacityWithin capacity → CapacityWithin result × (result ≢ capacity) }
 {
     match capacity {
         1..=10000 => 10001 - capacity,
@@ -107,6 +105,7 @@ fn other_capacity(capacity: u16) -> u16
     }
 }
 
+// Stays: positions here and below, since the definitions go by them, and a part lent for each number would have them as its ends.
 fn put_pair(s: &mut [u8], at: usize, value: u16)
     requires { at + 1 < length s.old }
     ensures { s.new ≡ with_pair s.old at value }
@@ -141,18 +140,15 @@ fn change_three(s: &mut [u8], at: usize, values: Values)
 pub fn change(field: &mut [u8], stations: Stations)
     ensures { field.new ≡ changed field.old stations }
 {
-    if gives_effects(field, stations) {
+    if Values::Effects.given_by(field, stations) {
         change_three(field, 5, Values::Effects);
-        return;
-    }
-    if gives_capacities(field, stations) {
+    } else if Values::Capacities.given_by(field, stations) {
         change_three(field, 4, Values::Capacities);
     }
 }
 
 // Whether two answers are the same bytes.
 pub fn same_bytes(s: &[u8], t: &[u8]) -> bool
-    requires { length t.now < 1000000 }
     ensures { result ≡ same_bytes s.now t.now }
 {
     s == t
@@ -160,7 +156,6 @@ pub fn same_bytes(s: &[u8], t: &[u8]) -> bool
 
 // Whether the answers to a field are as they must be: the same, unless it is a look at a chosen station.
 pub fn answers_agree(field: &[u8], stations: Stations, s: &[u8], t: &[u8]) -> bool
-    requires { length t.now < 1000000 }
     ensures { result ≡ answers_agree field.now stations s.now t.now }
 {
     looks_at(field, stations) || same_bytes(s, t)

@@ -4,12 +4,13 @@
 
 #![tactic(auto)]
 
-ghost use Rattle.std.specs.Prelude.{◌≡◌, ◌<◌, map};
+ghost use Rattle.std.specs.Prelude.{◌≡◌, map};
+ghost use Rattle.recheck_bytes.specs.Bytes.{number_at};
 ghost use Rattle.recheck_pairs.specs.Pair.{has_extremes, opposite, pair_agrees};
 ghost use Rattle.recheck_pairs.specs.Turned.{negated, turned, turned_place, turned_triple};
 
 use recheck_bytes::{byte_at, number_at};
-use recheck_sheet::{CASES, Place, Triple, WorkingSheet};
+use recheck_sheet::{CASES, EXTREMES, Place, Tag, Triple, WorkingSheet};
 
 // Minus an effect, in 16 bits of two's complement.
 fn negated(effect: u16) -> u16
@@ -44,7 +45,6 @@ fn all_turned(places: [Place; CASES]) -> [Place; CASES]
 }
 
 // The sheet with the sign of every effect turned: all places, stations and components.
-
 #[tactic(auto, unfolding(crate::specs::Turned::turned))]
 pub fn turned(w: &WorkingSheet) -> WorkingSheet
     ensures { result ≡ turned w.now }
@@ -59,21 +59,31 @@ pub fn turned(w: &WorkingSheet) -> WorkingSheet
 pub fn has_extremes(field: &[u8], answer: &[u8]) -> bool
     ensures { result ≡ has_extremes field.now answer.now }
 {
-    (byte_at(field, 0) == 6) & (byte_at(answer, 0) == 0x86)
+    Tag::try_from(byte_at(field, 0)) == Ok(Tag::Extremes) && byte_at(answer, 0) == EXTREMES
 }
 
-// Whether the numbers of eight bytes at these places, in two's complement, add up to 0.
-fn opposite(s: &[u8], at: usize, t: &[u8], from: usize) -> bool
-    requires at_bound { at < 100 }
-    requires from_bound { from < 100 }
-    ensures { result ≡ opposite s.now at t.now from }
+fn maximum(answer: &[u8]) -> u64
+    ensures { result ≡ number_at answer.now 3 8 }
 {
-    number_at(s, at, 8).wrapping_add(number_at(t, from, 8)) == 0
+    number_at(answer, 3)
+}
+
+fn minimum(answer: &[u8]) -> u64
+    ensures { result ≡ number_at answer.now 20 8 }
+{
+    number_at(answer, 20)
+}
+
+// Whether the numbers, in two's complement, add up to 0.
+fn opposite(x: u64, y: u64) -> bool
+    ensures { result ≡ opposite x y }
+{
+    x.wrapping_add(y) == 0
 }
 
 // Whether each extreme of the answer after the signs are turned is minus the other one of the answer before.
 pub fn pair_agrees(before: &[u8], after: &[u8]) -> bool
     ensures { result ≡ pair_agrees before.now after.now }
 {
-    opposite(after, 3, before, 20) & opposite(after, 20, before, 3)
+    opposite(maximum(after), minimum(before)) && opposite(minimum(after), maximum(before))
 }

@@ -4,9 +4,11 @@
 ghost use Rattle.std.specs.Prelude.{◌≡◌, ◌<◌, ◌≤◌, length, take, min};
 
 mod reader;
+mod rests;
 
 pub use reader::{Reader, Reading};
-use recheck_bytes::pair_at;
+use recheck_bytes::{BODY_MOST, pair_at};
+pub use rests::Rests;
 
 // A field of length 60,001 that is wholly there has so many bytes, and no reading is given more.
 const LONGEST: usize = 60004;
@@ -27,5 +29,6 @@ pub fn field_size(input: &[u8]) -> usize
 {
     let n = input.len().min(LONGEST);
     let body = usize::from(pair_at(input, 1));
-    if body <= 60000 { n.min(3 + body) } else { n }
+    let most = usize::from(BODY_MOST);
+    if body <= most { n.min(3 + body) } else { n }
 }

@@ -2,112 +2,95 @@
 
 #![tactic(auto)]
 
-ghost use Rattle.std.specs.Prelude.{◌<◌};
-
 mod refusal;
 
-use recheck_bytes::{byte_at, index_at, pair_at};
+use recheck_bytes::{BODY_MOST, byte_at, index_at, pair_at};
 use recheck_sheet::{CASES, STATIONS, Tag, WorkingSheet};
 pub use refusal::Refusal;
 
 // `Ok` where the values are as they must be.
+// Stays: a bool, the test itself, which chooses no step.
 fn admit(right: bool, otherwise: Refusal) -> Result<(), Refusal> {
-    if right { Ok(()) } else { Err(otherwise) }
+    right.then_some(()).ok_or(otherwise)
 }
 
 // The field's tag, where header and body are all there, the tag is known and the length is the tag's.
 fn header(field: &[u8]) -> Result<Tag, Refusal> {
     let length = pair_at(field, 1);
-    let whole = length <= 60000 && 3 + usize::from(length) <= field.len();
+    let whole = length <= BODY_MOST && 3 + usize::from(length) <= field.len();
     admit(whole, Refusal::Cut)?;
     let tag = Tag::try_from(byte_at(field, 0))?;
     admit(tag.takes(length), Refusal::Length)?;
     Ok(tag)
 }
 
-fn admit_settings(field: &[u8]) -> Result<(), Refusal> {
-    let method = (1..=2).contains(&byte_at(field, 3));
-    let options = byte_at(field, 4) <= 1 && byte_at(field, 5) <= 2;
-    admit(method && options, Refusal::Setting)
+// Stays: a function for each rule of SCOPE 7.1 here and below, with its own limits and refusal, of the bytes that a body has.
+fn admit_settings(method: u8, live: u8, zone: u8) -> Result<(), Refusal> {
+    let right = (1..=2).contains(&method) && live <= 1 && zone <= 2;
+    admit(right, Refusal::Setting)
 }
 
-fn admit_switch(field: &[u8], at: usize) -> Result<(), Refusal> {
-    admit(byte_at(field, at) <= 1, Refusal::Setting)
+fn admit_case(case: u8) -> Result<(), Refusal> {
+    admit(usize::from(case) < CASES, Refusal::Case)
 }
 
-fn admit_case(field: &[u8], at: usize) -> Result<(), Refusal> {
-    admit(index_at(field, at) < CASES, Refusal::Case)
+fn admit_station(station: u8) -> Result<(), Refusal> {
+    admit(usize::from(station) < STATIONS, Refusal::Station)
 }
 
-fn admit_station(field: &[u8], at: usize) -> Result<(), Refusal> {
-    admit(index_at(field, at) < STATIONS, Refusal::Station)
+fn admit_effect(effect: u16) -> Result<(), Refusal> {
+    let right = (-10000..=10000).contains(&effect.cast_signed());
+    admit(right, Refusal::Effect)
 }
 
-fn admit_kind(field: &[u8], at: usize) -> Result<(), Refusal> {
-    admit((1..=14).contains(&byte_at(field, at)), Refusal::Kind)
-}
-
-fn admit_component(field: &[u8], at: usize) -> Result<(), Refusal> {
-    admit(byte_at(field, at) <= 2, Refusal::Component)
-}
-
-fn admit_effect(field: &[u8], at: usize) -> Result<(), Refusal>
-    requires { at < 60000 }
-{
-    let effect = pair_at(field, at).cast_signed();
-    admit((-10000..=10000).contains(&effect), Refusal::Effect)
-}
-
-fn admit_capacity(field: &[u8], at: usize) -> Result<(), Refusal>
-    requires { at < 60000 }
-{
-    let capacity = pair_at(field, at);
+fn admit_capacity(capacity: u16) -> Result<(), Refusal> {
     admit((1..=10000).contains(&capacity), Refusal::Capacity)
 }
 
 // The factor of T, within the range of the method that the sheet has.
-fn admit_straining(method: u8, field: &[u8], at: usize) -> Result<(), Refusal>
-    requires { at < 60000 }
-{
+fn admit_straining(method: u8, factor: u16) -> Result<(), Refusal> {
     let limits = if method == 1 { 1000..=2000 } else { 750..=1000 };
-    admit(limits.contains(&pair_at(field, at)), Refusal::Straining)
+    admit(limits.contains(&factor), Refusal::Straining)
 }
 
 // The body's values, from first to last.
 fn admit_values(tag: Tag, method: u8, field: &[u8]) -> Result<(), Refusal> {
+    let first = byte_at(field, 3);
+    let second = byte_at(field, 4);
     match tag {
-        Tag::Restart => admit_settings(field),
+        Tag::Restart => admit_settings(first, second, byte_at(field, 5)),
         Tag::Fill => {
-            admit_case(field, 3)?;
-            admit_kind(field, 4)
+            admit_case(first)?;
+            admit((1..=14).contains(&second), Refusal::Kind)
         }
         Tag::Effects => {
-            admit_case(field, 3)?;
-            admit_station(field, 4)?;
-            admit_effect(field, 5)?;
-            admit_effect(field, 7)?;
-            admit_effect(field, 9)
+            admit_case(first)?;
+            admit_station(second)?;
+            admit_effect(pair_at(field, 5))?;
+            admit_effect(pair_at(field, 7))?;
+            admit_effect(pair_at(field, 9))
         }
-        Tag::Empty | Tag::Name => admit_case(field, 3),
+        Tag::Empty | Tag::Name => admit_case(first),
         Tag::Capacities => {
-            admit_station(field, 3)?;
-            admit_capacity(field, 4)?;
-            admit_capacity(field, 6)?;
-            admit_capacity(field, 8)
+            admit_station(first)?;
+            admit_capacity(pair_at(field, 4))?;
+            admit_capacity(pair_at(field, 6))?;
+            admit_capacity(pair_at(field, 8))
         }
         Tag::Extremes => {
-            admit_station(field, 3)?;
-            admit_component(field, 4)
+            admit_station(first)?;
+            admit(second <= 2, Refusal::Component)
         }
-        Tag::Utilisation => admit_station(field, 3),
-        Tag::Ice => admit_switch(field, 3),
-        Tag::Straining => admit_straining(method, field, 3),
+        Tag::Utilisation => admit_station(first),
+        Tag::Ice => admit(first <= 1, Refusal::Setting),
+        Tag::Straining => admit_straining(method, pair_at(field, 3)),
     }
 }
 
 // What the sheet itself refuses: a place taken, a place empty, a station with no capacities.
 fn admit_places(tag: Tag, w: &WorkingSheet, field: &[u8]) -> Result<(), Refusal> {
     let at = index_at(field, 3);
+    // Stays: a remainder, which changes no case or station that `admit_values` lets in, and needs no clause.
     let kind = w.places[at % CASES].kind;
     match tag {
         Tag::Fill => admit(kind.is_none(), Refusal::PlaceTaken),

@@ -5,7 +5,7 @@ ghost use Rattle.recheck_refusals.specs.declared.refusal.Refusal.TheVariants.{Un
 use recheck_sheet::UnknownTag;
 
 // The refusals of a field on a sheet, by SCOPE 7.1. An output that is too short (14) has nothing to do with the field.
-#[derive(Clone, Copy, PartialEq, Eq)]
+#[derive(Clone, Copy, Debug, PartialEq, Eq)]
 pub enum Refusal {
     UnknownTag = 1,
     Length = 2,

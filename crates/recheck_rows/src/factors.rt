@@ -1,4 +1,5 @@
 // The full factors of the kinds in a row, but for T.
+// Stays: a function each, as each is a kind's column of the standard's table; `fluid` and `snow` are another's but for some rows.
 
 ghost use Rattle.std.specs.Prelude.{◌≤◌};
 

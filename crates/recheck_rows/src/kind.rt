@@ -17,7 +17,7 @@ pub enum Kind {
     SelfStraining,
 }
 
-// A byte that stands for no kind, as the 0 of an empty place.
+// A byte that stands for no kind.
 #[derive(Clone, Copy, Debug, PartialEq, Eq)]
 pub struct NoKind;
 

@@ -14,7 +14,11 @@ use kind::Kind;
 mod factors;
 mod kind;
 
+// How many places for load cases a sheet has (SCOPE 2.2).
+pub const CASES: usize = 32;
+
 // What opens rows and gives their factors: the sheet's five settings.
+// Stays: bytes and no enums, since the working sheet takes the values of any field of tag 01 or 08, and its statement holds of each.
 #[derive(Clone, Copy)]
 pub struct Options {
     pub method: u8,
@@ -36,6 +40,7 @@ impl Options {
         }
     }
 
+    // Stays: this and the next are the standard's two lists of rows, each with the method's own numbers.
     #[tactic(auto, unfolding(crate::specs::Rows::strength_open))]
     fn strength_open(self, row: u8) -> bool
         ensures { result ≡ strength_open row self.zone self.ice }
@@ -62,7 +67,8 @@ impl Options {
         }
     }
 
-    // The full factor of a kind in a row, 0 where the kind may not act there. Kind 0 is an empty place.
+    // The full factor of a kind in a row: 0 where the kind may not act there, and of a byte that stands for no kind.
+    // Stays: the kind is a byte, since the working sheet holds the byte of any field of tag 02, and its statement says so.
     pub fn factor(self, row: u8, kind: u8) -> u64
         ensures { result ≤ max 2000 self.straining }
     {

@@ -1,26 +1,18 @@
-ghost use Rattle.std.specs.Prelude.{◌<◌, length};
-
-use crate::SAVED_ROOM;
-use recheck_bytes::UNWRITTEN;
+use recheck_bytes::{SAVED_ROOM, UNWRITTEN};
 use recheck_methods::holds;
 use recheck_pairs::{has_extremes, pair_agrees, turned};
 use recheck_saving::SavedForm;
 use recheck_sheet::WorkingSheet;
 
 // A list of one field on a saved sheet: the answer is the reader's.
-fn answer_agrees(state: &[u8], field: &[u8], answer: &[u8]) -> bool
-    requires { length answer.now < 6000 }
-{
+fn answer_agrees(state: &[u8], field: &[u8], answer: &[u8]) -> bool {
     let mut out = [UNWRITTEN; 64];
     let r = frames_c::frames_answer(state, field, &mut out);
     r.refusal == 0 && r.written == answer.len() && r.saved == 0 && holds(&out, answer)
 }
 
 // The same, and what is saved is the sheet after the field.
-fn run_agrees(state: &[u8], field: &[u8], answer: &[u8], after: &[u8]) -> bool
-    requires answer_len_bound { length answer.now < 6000 }
-    requires after_len_bound { length after.now < 6000 }
-{
+fn run_agrees(state: &[u8], field: &[u8], answer: &[u8], after: &[u8]) -> bool {
     let mut out = [UNWRITTEN; 64];
     let mut saved = [UNWRITTEN; SAVED_ROOM];
     let r = frames_c::frames_run(state, field, &mut out, &mut saved);
@@ -29,9 +21,7 @@ fn run_agrees(state: &[u8], field: &[u8], answer: &[u8], after: &[u8]) -> bool
 }
 
 // Both lists of one field on the sheet saved before it.
-pub fn lists_agree(before: &SavedForm, after: &SavedForm, field: &[u8], answer: &[u8]) -> bool
-    requires { length answer.now < 65 }
-{
+pub fn lists_agree(before: &SavedForm, after: &SavedForm, field: &[u8], answer: &[u8]) -> bool {
     let state = before.bytes();
     answer_agrees(state, field, answer) && run_agrees(state, field, answer, after.bytes())
 }

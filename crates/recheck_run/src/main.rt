@@ -4,42 +4,32 @@
 // recheck_answers), the library's other calls compared with it, its extremes with those of the sheet with signs turned, the sums
 // that its sheet holds with those of the working sheet, its answers with those to fields with other values at other stations and its
 // reader of case names with the second program's, and writes a summary.
-ghost use Rattle.std.specs.Prelude.{◌<◌, ◌≤◌, length};
+ghost use Rattle.std.specs.Prelude.{◌≤◌, length};
 
 mod calls;
 mod run;
 
-use recheck_bytes::zeros;
+use recheck_bytes::{LIST_ROOM, SAVED_ROOM, zeros};
 use recheck_drawing::{compare_names, worked_files_agree};
 use recheck_files::compare_files;
 use recheck_offices::Stations;
-use recheck_readings::field_size;
+use recheck_readings::Rests;
 use recheck_tally::{Files, Lists, Tally};
 use recheck_two_lists::{at_stations, worked_lists_agree};
 use run::Run;
 
-// The stored input is smaller, and so are the answers to it.
-const ROOM: usize = 262144;
-
-// The calls of `frames_c` are given more bytes to save into than any sheet has.
-const SAVED_ROOM: usize = 8192;
-
 // Reads the fields one after the other. The list has the answers to them in one list.
-fn run_all(input: &[u8], list: &[u8]) -> Tally
-    requires { length list.now < 1000000 }
-{
-    let mut run = Run::fresh();
-    let mut rest = input;
-    while !rest.is_empty() {
-        run.step(rest, list);
-        rest = &rest[field_size(rest)..];
+fn run_all(input: &[u8], list: &[u8]) -> Tally {
+    let mut run = Run::fresh(list);
+    for rest in Rests(input) {
+        run.step(rest);
     }
     run.tally_with_list(list.len())
 }
 
 // The fields in one list, before they are read one after the other.
 fn run_both(input: &[u8]) -> Tally {
-    let mut answers = zeros::<ROOM>();
+    let mut answers = zeros::<LIST_ROOM>();
     let mut saved = [0; SAVED_ROOM];
     let r = frames_c::frames_run(b"", input, &mut answers, &mut saved);
     let list = answers.get(..r.written).unwrap_or(b"");
@@ -47,6 +37,7 @@ fn run_both(input: &[u8]) -> Tally {
 }
 
 // The stored fields with other values at all stations but one, for each, and at one station alone, for each; and the worked lists.
+// Stays: a clause on the length, here, in recheck_two_lists and in recheck_files, since the type of a slice has none.
 fn compare_lists(tally: &mut Tally, stored: &[u8])
     requires { length stored.now ≤ 262144 }
 {
@@ -65,6 +56,7 @@ fn compare_lists(tally: &mut Tally, stored: &[u8])
 }
 
 // The stored input as a file: its names, and the sheets and answers without them; and the worked files.
+// Stays: beside `compare_lists`, as each adds up counts of its own crates.
 fn read_as_file(tally: &mut Tally, stored: &[u8])
     requires { length stored.now ≤ 262144 }
 {
@@ -86,7 +78,7 @@ fn read_as_file(tally: &mut Tally, stored: &[u8])
 }
 
 fn main(rt: HostRuntime) {
-    let mut room = zeros::<ROOM>();
+    let mut room = zeros::<LIST_ROOM>();
     let n = io::read_full(0, &mut room);
     let stored = &room[..n];
     let mut tally = run_both(stored);

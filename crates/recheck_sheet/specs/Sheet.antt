@@ -19,6 +19,14 @@ component_of t component = if component == 0 then t.n else if component == 1 the
 abbrev pub of_kind : Option ℕ → Place
 of_kind kind = record { kind = kind; effects = replicate 16 no_effect }
 
+-- the kind that a byte gives a place: none is 0, as kinds are numbered from 1 on (SCOPE 2.3)
+abbrev pub kind_in : ℕ → Option ℕ
+kind_in byte = if byte == 0 then None else Some byte
+
+-- the capacities that three numbers give a station: none where the first is 0, as capacities are 1 or more (SCOPE 2.5)
+abbrev pub capacities_in : Triple → Option Triple
+capacities_in t = if t.n == 0 then None else Some t
+
 unfoldable pub blank_of : ℕ → ℕ → ℕ → WorkingSheet
 blank_of method live zone = record { options = record { method = method; live = live; zone = zone; ice = 0; straining = 1000 }; places = replicate 32 (of_kind None); capacities = replicate 16 None }
 
@@ -37,12 +45,12 @@ unfoldable pub with_effects : WorkingSheet → List ℕ → WorkingSheet
 with_effects w f = let case = byte_at f 3 % 32 in record w { places = set w.places case (with_triple (slice_index_or w.places case (of_kind None)) (byte_at f 4 % 16) (triple_at f 5)) }
 
 unfoldable pub with_capacities : WorkingSheet → List ℕ → WorkingSheet
-with_capacities w f = record w { capacities = set w.capacities (byte_at f 3 % 16) (Some (triple_at f 4)) }
+with_capacities w f = record w { capacities = set w.capacities (byte_at f 3 % 16) (capacities_in (triple_at f 4)) }
 
 -- by the field's tag
 abbrev pub changed_by : Result Tag UnknownTag → WorkingSheet → List ℕ → WorkingSheet
 changed_by (Ok Restart) w f = blank_of (byte_at f 3) (byte_at f 4) (byte_at f 5)
-changed_by (Ok Fill) w f = with_kind w (byte_at f 3) (Some (byte_at f 4))
+changed_by (Ok Fill) w f = with_kind w (byte_at f 3) (kind_in (byte_at f 4))
 changed_by (Ok Effects) w f = with_effects w f
 changed_by (Ok Empty) w f = with_kind w (byte_at f 3) None
 changed_by (Ok Capacities) w f = with_capacities w f

@@ -4,17 +4,16 @@
 #![tactic(auto)]
 
 ghost use Rattle.std.specs.Prelude.{◌≡◌, ◌<◌};
-ghost use Rattle.recheck_sheet.specs.Sheet.{blank_of, changed_by, component_of, of_kind, triple_at, with_capacities, with_effects, with_kind};
+ghost use Rattle.recheck_sheet.specs.Sheet.{blank_of, capacities_in, changed_by, component_of, kind_in, of_kind, triple_at, with_capacities, with_effects, with_kind};
 ghost use Rattle.recheck_sheet.specs.Tags.{tag_of};
 ghost use Rattle.recheck_bytes.specs.Bytes.{byte_at};
 
 mod tag;
 
 use recheck_bytes::{byte_at, index_at, pair_at};
+pub use recheck_rows::CASES;
 use recheck_rows::Options;
-pub use tag::{Tag, UnknownTag};
-
-pub const CASES: usize = 32;
+pub use tag::{ACCEPTED, EXTREMES, REFUSED, Tag, UTILISATION, UnknownTag, whole_tag};
 
 pub const STATIONS: usize = 16;
 
@@ -27,7 +26,7 @@ pub struct Triple {
 }
 
 // The place of a load case: the kind of the case, where there is one, and its effects at each station.
-// Stays: (a) the kind and the options are bytes, since `change` takes fields with any.
+// Stays: the kind is a byte, since `change` takes fields with any, and its statement holds of each.
 #[derive(Clone, Copy)]
 pub struct Place {
     pub kind: Option<u8>,
@@ -44,6 +43,7 @@ pub struct WorkingSheet {
 
 impl Triple {
     // The number of a component, 0 for N, 1 for My, and else Mz.
+    // Stays: a component by its number, since the sums stand in one list, and a sum's index gives the number.
     pub fn component(self, component: usize) -> u16
         ensures { result ≡ component_of self component }
     {
@@ -55,6 +55,7 @@ impl Triple {
     }
 
     // The three numbers that stand from a place on.
+    // Stays: a place, and no part of the field, as past the end of a short field stands 0.
     fn read(field: &[u8], at: usize) -> Self
         requires { at < 1000 }
         ensures { result ≡ triple_at field.now at }
@@ -65,6 +66,20 @@ impl Triple {
             mz: pair_at(field, at + 4),
         }
     }
+}
+
+// The kind that a byte gives a place: none is 0.
+fn kind_in(byte: u8) -> Option<u8>
+    ensures { result ≡ kind_in byte }
+{
+    (byte != 0).then_some(byte)
+}
+
+// The capacities that three numbers give a station: none where the first is 0.
+fn capacities_in(triple: Triple) -> Option<Triple>
+    ensures { result ≡ capacities_in triple }
+{
+    (triple.n != 0).then_some(triple)
 }
 
 impl Place {
@@ -79,6 +94,7 @@ impl Place {
     }
 }
 
+// Stays: remainders of cases and stations, as `change` takes fields with any and has nothing to refuse them by.
 impl WorkingSheet {
     pub fn fresh() -> Self
         ensures { result ≡ blank_of 1 0 0 }
@@ -86,6 +102,7 @@ impl WorkingSheet {
         Self::blank(1, 0, 0)
     }
 
+    // Stays: three bytes, as the body of tag 01 has them.
     #[tactic(auto, unfolding(crate::specs::Sheet::blank_of))]
     fn blank(method: u8, live: u8, zone: u8) -> Self
         ensures { result ≡ blank_of method live zone }
@@ -125,7 +142,7 @@ impl WorkingSheet {
         ensures { self.new ≡ with_capacities self.old field.now }
     {
         let station = index_at(field, 3) % STATIONS;
-        self.capacities[station] = Some(Triple::read(field, 4));
+        self.capacities[station] = capacities_in(Triple::read(field, 4));
     }
 
     // What becomes of the sheet under an accepted field.
@@ -139,7 +156,7 @@ impl WorkingSheet {
             Tag::Restart => {
                 *self = Self::blank(byte_at(field, 3), byte_at(field, 4), byte_at(field, 5));
             }
-            Tag::Fill => self.set_kind(index_at(field, 3), Some(byte_at(field, 4))),
+            Tag::Fill => self.set_kind(index_at(field, 3), kind_in(byte_at(field, 4))),
             Tag::Effects => self.set_effects(field),
             Tag::Empty => self.set_kind(index_at(field, 3), None),
             Tag::Capacities => self.set_capacities(field),

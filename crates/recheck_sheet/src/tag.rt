@@ -1,10 +1,20 @@
 ghost use Rattle.std.specs.Prelude.{◌≡◌};
-ghost use Rattle.recheck_sheet.specs.Tags.{tag_of, takes};
+ghost use Rattle.recheck_sheet.specs.Tags.{tag_of, takes, whole_tag};
 
+use recheck_bytes::{byte_at, pair_at};
 use recheck_names::{NAME_TAG, is_name_length};
 
+// The first bytes of answers (SCOPE 6.1).
+pub const ACCEPTED: u8 = 0x80;
+
+pub const REFUSED: u8 = 0x81;
+
+pub const EXTREMES: u8 = 0x86;
+
+pub const UTILISATION: u8 = 0x87;
+
 // What a field asks for, by its first byte (SCOPE 5.2).
-#[derive(Clone, Copy, PartialEq, Eq)]
+#[derive(Clone, Copy, Debug, PartialEq, Eq)]
 pub enum Tag {
     Restart,
     Fill,
@@ -19,7 +29,7 @@ pub enum Tag {
 }
 
 // A byte that is no tag.
-#[derive(Clone, Copy, PartialEq, Eq)]
+#[derive(Clone, Copy, Debug, PartialEq, Eq)]
 pub struct UnknownTag(pub u8);
 
 impl TryFrom<u8> for Tag {
@@ -58,4 +68,14 @@ impl Tag {
             Tag::Name => is_name_length(length),
         }
     }
+}
+
+// The tag of a field that ends where its header says, with a body that the tag takes.
+pub fn whole_tag(field: &[u8]) -> Option<Tag>
+    ensures { result ≡ whole_tag field.now }
+{
+    let tag = Tag::try_from(byte_at(field, 0)).ok()?;
+    let length = pair_at(field, 1);
+    let whole = tag.takes(length) && field.len() == 3 + usize::from(length);
+    whole.then_some(tag)
 }

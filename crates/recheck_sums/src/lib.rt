@@ -1,6 +1,6 @@
 // The sums that a sheet holds: for each station and component, the effects of the D cases added up, and those of the F cases. They
 // are worked out from the working sheet here, case by case, and compared with those that the library's sheet has.
-// Sums stand as in the library's sheet: station s, component k, D at 6 s + k and F at 6 s + 3 + k.
+// Station s, component k: D at 6 s + k and F at 6 s + 3 + k.
 
 #![tactic(auto)]
 
@@ -8,11 +8,13 @@ ghost use Rattle.std.specs.Prelude.{◌≡◌, ◌↔◌, ◌≢◌, ◌<◌, �
 ghost use Rattle.recheck_sums.specs.Sums.{kind_at, share, sum_at, sums_of};
 
 use recheck_sheet::{CASES, Place, WorkingSheet};
+use std::array::from_fn;
 
 // How many sums a sheet has.
 pub const SUMS: usize = 96;
 
 // What a place adds to the sum over the cases of a kind: its effect, where its case is of that kind.
+// Stays: kind and component by number, here and below, since a place holds the byte of its kind, and an index of the list gives both.
 #[tactic(auto, unfolding(crate::specs::Sums::share))]
 fn share(place: &Place, kind: u8, station: usize, component: usize) -> i64
     requires { station < 16 }
@@ -46,15 +48,11 @@ fn kind_at(index: usize) -> u8
 }
 
 // The sums that the sheet must have.
-// Stays: (a) one list by index, since the library's sheet has its sums so.
+// Stays: one list by index, since `sums_are` states that two lists of numbers are equal, and `held_sums` gives the library's in this order.
 pub fn sums_of(w: &WorkingSheet) -> [i64; SUMS]
     ensures { result ≡ sums_of w.now }
 {
-    let mut sums = [0; SUMS];
-    for i in 0..SUMS {
-        sums[i] = sum_at(&w.places, kind_at(i), i / 6, i % 3);
-    }
-    sums
+    from_fn(|i| sum_at(&w.places, kind_at(i), i / 6, i % 3))
 }
 
 // Whether any of these sums is not 0.

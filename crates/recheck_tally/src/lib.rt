@@ -20,6 +20,7 @@ pub enum Outcome {
 
 // A reading: whether all was right, what it was, whether a pair of extremes was compared with those of the sheet with signs turned, and
 // whether it left a sheet with a sum other than 0.
+// Stays: the three tests hold or fail whatever the others and the outcome are, and each is only counted: an enum would have 32 variants.
 #[derive(Clone, Copy)]
 pub struct Reading {
     pub ok: bool,
@@ -63,7 +64,9 @@ pub struct Tally {
     pub first: Option<NonZeroU64>,
 }
 
-fn counted(n: u64, more: bool) -> u64
+// One more where there is one.
+// Stays: the test is what is counted, and chooses no step.
+pub fn counted(n: u64, more: bool) -> u64
     ensures { result ≡ counted n more }
 {
     n.wrapping_add(u64::from(more))
@@ -71,6 +74,7 @@ fn counted(n: u64, more: bool) -> u64
 
 impl Tally {
     // A difference at the reading of this number, unless all is right.
+    // Stays: the test is what is counted; a Result would carry nothing.
     fn compare(&mut self, ok: bool, number: u64)
         ensures differences { self.new.differences ≡ counted self.old.differences (not ok) }
         ensures readings { self.new.readings ≡ self.old.readings }
@@ -82,6 +86,7 @@ impl Tally {
     }
 
     // A reading with the short output, made before the reading that is counted next.
+    // Stays: as `compare`.
     pub fn count_short(&mut self, ok: bool)
         ensures { self.new.differences ≡ counted self.old.differences (not ok) }
     {
@@ -138,27 +143,41 @@ impl Tally {
     }
 }
 
+// Three counts, each with what it is of.
+fn write_counts<W: fmt::Write>(f: &mut fmt::Formatter<W>, counts: [(u64, &str); 3]) -> fmt::Result {
+    let [(a, first), (b, second), (c, third)] = counts;
+    write!(f, "{a} {first}, {b} {second}, {c} {third}")
+}
+
 impl fmt::Display for Lists {
     fn fmt<W: fmt::Write>(&self, f: &mut fmt::Formatter<W>) -> fmt::Result {
-        write!(
+        let same = "looks the same with other values at the other stations";
+        let elsewhere = "looks there different";
+        let own = "looks different with other values at their own station";
+        write_counts(
             f,
-            "{} looks the same with other values at the other stations, ",
-            self.unaffected
-        )?;
-        write!(f, "{} looks there different, ", self.elsewhere)?;
-        write!(
-            f,
-            "{} looks different with other values at their own station",
-            self.affected
+            [
+                (self.unaffected, same),
+                (self.elsewhere, elsewhere),
+                (self.affected, own),
+            ],
         )
     }
 }
 
 impl fmt::Display for Files {
     fn fmt<W: fmt::Write>(&self, f: &mut fmt::Formatter<W>) -> fmt::Result {
-        write!(f, "{} cases looked up in files, ", self.cases)?;
-        write!(f, "{} names found, ", self.names)?;
-        write!(f, "{} files the same without their names", self.files)
+        let cases = "cases looked up in files";
+        let names = "names found";
+        let files = "files the same without their names";
+        write_counts(
+            f,
+            [
+                (self.cases, cases),
+                (self.names, names),
+                (self.files, files),
+            ],
+        )
     }
 }
 

@@ -5,50 +5,40 @@
 ghost use Rattle.std.specs.Prelude.{◌≡◌, ◌≤◌, length};
 
 mod counts;
+mod fields_mut;
 mod lists;
 mod worked;
 
 pub use counts::Counts;
+use fields_mut::FieldsMut;
 use lists::Lists;
-use recheck_bytes::zeros;
+use recheck_bytes::{LIST_ROOM, zeros};
 use recheck_offices::{Stations, change};
-use recheck_readings::field_size;
+use recheck_readings::Rests;
 pub use worked::worked_lists_agree;
 
-// How many bytes a list has at most.
-const ROOM: usize = 262144;
-
-// The two lists, which are as long as each other, field by field.
-fn compare(list: &[u8], other: &[u8], chosen: Stations) -> Counts
-    requires { length list.now ≡ length other.now }
-{
+// The two lists, whose fields are as long as each other, field by field.
+fn compare(list: &[u8], other: &[u8], chosen: Stations) -> Counts {
     let mut lists = Lists::fresh();
-    let mut rest = list;
-    let mut others = other;
-    while !rest.is_empty() {
-        let size = field_size(rest);
-        lists.step(rest, others, size, chosen);
-        rest = &rest[size..];
-        others = &others[size..];
+    for (rest, others) in Rests(list).zip(Rests(other)) {
+        lists.step(rest, others, chosen);
     }
     lists.counts
 }
 
 // Other values, where a field gives those of a chosen station.
 fn change_all(list: &mut [u8], chosen: Stations) {
-    let mut start = 0;
-    while start < list.len() {
-        let end = start + field_size(&list[start..]);
-        change(&mut list[start..end], chosen);
-        start = end;
+    for field in FieldsMut(list) {
+        change(field, chosen);
     }
 }
 
 // The stored list, and the same with other values for the chosen stations.
+// Stays: zeros and a part of them, since the copy is changed where it stands, and a `Buffer` lends its bytes for reading alone.
 fn with_changes(stored: &[u8], chosen: Stations) -> Counts
     requires { length stored.now ≤ 262144 }
 {
-    let mut room = zeros::<ROOM>();
+    let mut room = zeros::<LIST_ROOM>();
     let other = &mut room[..stored.len()];
     other.copy_from_slice(stored);
     change_all(other, chosen);
@@ -62,7 +52,7 @@ pub fn at_stations<F: Fn(u8) -> Stations>(stored: &[u8], choose: F) -> Counts
 {
     let mut counts = Counts::default();
     for station in 0..16 {
-        counts.add(with_changes(stored, choose(station)));
+        counts += with_changes(stored, choose(station));
     }
     counts
 }

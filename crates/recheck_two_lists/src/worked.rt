@@ -51,9 +51,13 @@ fn third_list() -> [u8; 171] {
     list
 }
 
-// Whether the counts are these, with no failure.
-fn counts_are(c: Counts, same: u64, different: u64) -> bool {
-    (c.same == same) & (c.different == different) & (c.failed == 0)
+// Counts with no failure.
+fn counts(same: u64, different: u64) -> Counts {
+    Counts {
+        same,
+        different,
+        failed: 0,
+    }
 }
 
 // With other values at station 1 the six looks at station 0 have the same answers and the two at station 1 do not. With another N of D at
@@ -62,5 +66,5 @@ fn counts_are(c: Counts, same: u64, different: u64) -> bool {
 pub fn worked_lists_agree() -> bool {
     let others = compare(&WORKED, &second_list(), Stations::AllBut(0));
     let own = compare(&WORKED, &third_list(), Stations::Only(0));
-    counts_are(others, 6, 2) & counts_are(own, 2, 4)
+    others == counts(6, 2) && own == counts(2, 4)
 }

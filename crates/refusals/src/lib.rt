@@ -2,41 +2,49 @@
 
 #![tactic(auto)]
 
-ghost use Rattle.std.specs.Prelude.{◌≡◌};
+ghost use Rattle.std.specs.Prelude.{◌≡◌, IfOk};
 ghost use Rattle.standard.specs.Range.{method_outside, straining_outside};
+ghost use Rattle.envelope.specs.Components.{number_of_component};
 ghost use Rattle.refusals.specs.Refusals.{case_outside, station_outside, component_outside, effect_outside, capacity_outside, kind_outside, due_settings, due_fill_at, due_effects_at, due_empty_at, due_capacities, due_extremes, due_switch, due_straining, due_utilisation_at, due_name};
 ghost use Rattle.refusals.specs.Numbers.{number, number_of, refused_where};
 
-use standard::Class;
+use envelope::{Component, NoComponent};
+use standard::{Capacities, Class};
 
 pub const LAST_CASE: u8 = 31;
 
 const LAST_STATION: u8 = 15;
 
-const LAST_COMPONENT: u8 = 2;
-
 const EFFECT_LIMIT: u16 = 10000;
 
 const CAPACITY_LIMIT: u16 = 10000;
 
+// A case's effects on the three components as the words of a field's body: each is a signed number by its bits.
+#[derive(Clone, Copy, PartialEq, Eq, Debug)]
+pub struct EffectWords {
+    pub n: u16,
+    pub y: u16,
+    pub z: u16,
+}
+
 /// Why a field is refused.
 #[derive(Clone, Copy, PartialEq, Eq, Debug)]
 pub enum Refusal {
-    UnknownTag,
-    WrongLength,
-    Cut,
-    Setting,
-    Case,
-    Station,
-    Kind,
-    Component,
-    Effect,
-    Capacity,
-    Taken,
-    Empty,
-    NoCapacities,
-    ShortOutput,
-    Straining,
+    UnknownTag = 1,
+    WrongLength = 2,
+    Cut = 3,
+    Setting = 4,
+    Case = 5,
+    Station = 6,
+    Kind = 7,
+    Component = 8,
+    Effect = 9,
+    Capacity = 10,
+    Taken = 11,
+    Empty = 12,
+    NoCapacities = 13,
+    ShortOutput = 14,
+    Straining = 15,
 }
 
 /// The number that is answered.
@@ -44,27 +52,21 @@ impl From<Refusal> for u8 {
     ghost from_gives = { λ refusal n. n ≡ number refusal };
 
     fn from(refusal: Refusal) -> u8 {
-        match refusal {
-            Refusal::UnknownTag => 1,
-            Refusal::WrongLength => 2,
-            Refusal::Cut => 3,
-            Refusal::Setting => 4,
-            Refusal::Case => 5,
-            Refusal::Station => 6,
-            Refusal::Kind => 7,
-            Refusal::Component => 8,
-            Refusal::Effect => 9,
-            Refusal::Capacity => 10,
-            Refusal::Taken => 11,
-            Refusal::Empty => 12,
-            Refusal::NoCapacities => 13,
-            Refusal::ShortOutput => 14,
-            Refusal::Straining => 15,
-        }
+        refusal as u8
+    }
+}
+
+/// A byte that stands for no component is refused.
+impl From<NoComponent> for Refusal {
+    ghost from_gives = { λ none refusal. number refusal ≡ 8 };
+
+    fn from(_: NoComponent) -> Refusal {
+        Refusal::Component
     }
 }
 
 // A step of a function that refuses: the refusal where it is due.
+// Stays: a bool, the test itself, which chooses no step.
 pub fn refuse_where(due: bool, refusal: Refusal) -> Result<(), Refusal>
     ensures { result ≡ refused_where due refusal }
 {
@@ -83,6 +85,7 @@ fn check_station(station: u8) -> Result<(), Refusal>
     refuse_where(LAST_STATION < station, Refusal::Station)
 }
 
+// Stays: a byte, as a field has it, here and in the functions below: one that is no kind or component is refused.
 fn check_kind(kind: u8) -> Result<(), Refusal>
     ensures { result ≡ refused_where (kind_outside kind) Refusal.Kind }
 {
@@ -118,6 +121,7 @@ fn straining_outside(method: u8, factor: u16) -> bool
     !limits.contains(&factor)
 }
 
+// Stays: three bytes, as the body of tag 01 has them.
 #[tactic(auto, unfolding(crate::specs::Refusals::due_settings))]
 pub fn check_settings(method: u8, live: u8, zone: u8) -> Result<(), Refusal>
     ensures { number_of result ≡ due_settings method live zone }
@@ -126,7 +130,8 @@ pub fn check_settings(method: u8, live: u8, zone: u8) -> Result<(), Refusal>
     refuse_where(outside, Refusal::Setting)
 }
 
-// `held` is the kind at the place, 0 where it is empty.
+// `held` is the kind at the place.
+// Stays: 0 for an empty place, here and in the functions below, as the sheet's kinds have it.
 #[tactic(auto, unfolding(crate::specs::Refusals::due_fill_at))]
 pub fn check_fill(case: u8, kind: u8, held: u8) -> Result<(), Refusal>
     ensures { number_of result ≡ due_fill_at held case kind }
@@ -137,17 +142,18 @@ pub fn check_fill(case: u8, kind: u8, held: u8) -> Result<(), Refusal>
 }
 
 #[tactic(auto, unfolding(crate::specs::Refusals::due_effects_at))]
-pub fn check_effects(case: u8, station: u8, n: u16, y: u16, z: u16, held: u8) -> Result<(), Refusal>
-    ensures { number_of result ≡ due_effects_at held case station n y z }
+pub fn check_effects(case: u8, station: u8, effects: EffectWords, held: u8) -> Result<(), Refusal>
+    ensures { number_of result ≡ due_effects_at held case station effects.n effects.y effects.z }
 {
     check_case(case)?;
     check_station(station)?;
-    check_effect(n)?;
-    check_effect(y)?;
-    check_effect(z)?;
+    check_effect(effects.n)?;
+    check_effect(effects.y)?;
+    check_effect(effects.z)?;
     refuse_where(held == 0, Refusal::Empty)
 }
 
+// Stays: beside `check_utilisation`, as each tag has its own tests and refusals.
 #[tactic(auto, unfolding(crate::specs::Refusals::due_empty_at))]
 pub fn check_empty(case: u8, held: u8) -> Result<(), Refusal>
     ensures { number_of result ≡ due_empty_at held case }
@@ -157,24 +163,26 @@ pub fn check_empty(case: u8, held: u8) -> Result<(), Refusal>
 }
 
 #[tactic(auto, unfolding(crate::specs::Refusals::due_capacities))]
-pub fn check_capacities(station: u8, n: u16, y: u16, z: u16) -> Result<(), Refusal>
-    ensures { number_of result ≡ due_capacities station n y z }
+pub fn check_capacities(station: u8, capacities: Capacities) -> Result<(), Refusal>
+    ensures { number_of result ≡ due_capacities station capacities.n capacities.y capacities.z }
 {
     check_station(station)?;
-    check_capacity(n)?;
-    check_capacity(y)?;
-    check_capacity(z)
+    check_capacity(capacities.n)?;
+    check_capacity(capacities.y)?;
+    check_capacity(capacities.z)
 }
 
 #[tactic(auto, unfolding(crate::specs::Refusals::due_extremes))]
-pub fn check_extremes(station: u8, component: u8) -> Result<(), Refusal>
-    ensures { number_of result ≡ due_extremes station component }
+pub fn check_extremes(station: u8, component: u8) -> Result<Component, Refusal>
+    ensures refusal { number_of result ≡ due_extremes station component }
+    ensures component { IfOk result (λ known. number_of_component known ≡ component) }
 {
     check_station(station)?;
-    refuse_where(LAST_COMPONENT < component, Refusal::Component)
+    Ok(Component::try_from(component)?)
 }
 
-// `held` is the station's first capacity, 0 where it has none.
+// `held` is the station's first capacity.
+// Stays: 0 for a station without capacities, as the sheet has them.
 #[tactic(auto, unfolding(crate::specs::Refusals::due_utilisation_at))]
 pub fn check_utilisation(station: u8, held: u16) -> Result<(), Refusal>
     ensures { number_of result ≡ due_utilisation_at held station }

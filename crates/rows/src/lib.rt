@@ -11,6 +11,7 @@ use standard::{Kind, ROWS, Settings};
 const COLUMNS: usize = 12;
 
 // Rows by number; the columns are D, F, H, L, L with live option 1, roof, S, W, E, Fa, Di, Wi.
+// Stays: numbers by row and column, since one constant table by row number is a rule of the project.
 static LINES: [[u16; COLUMNS]; ROWS] = [
     [0, 0, 0, 0, 0, 0, 0, 0, 0, 0, 0, 0],
     [1400, 1400, 0, 0, 0, 0, 0, 0, 0, 0, 0, 0],
@@ -59,6 +60,7 @@ static LINES: [[u16; COLUMNS]; ROWS] = [
 ];
 
 // By row: bit j where kind j has a factor. A number that no row has is never open.
+// Stays: numbers by row, as the table above.
 static ROW_KINDS: [u16; ROWS] = [
     16384, 6, 16894, 16894, 17374, 17406, 17598, 16922, 17438, 19454, 18970, 19454, 18970, 20670,
     28862, 28698, 16384, 16384, 16384, 16384, 16384, 6, 16446, 16862, 16894, 16926, 17438, 17406,
@@ -67,7 +69,7 @@ static ROW_KINDS: [u16; ROWS] = [
 ];
 
 // The factor of T in a row: the sheet's, and none in rows 1 and 21.
-fn straining_in(s: Settings, row: usize) -> u16
+fn straining_in(s: Settings, row: u8) -> u16
     ensures { result ≡ straining_in s row }
 {
     match row {
@@ -77,16 +79,18 @@ fn straining_in(s: Settings, row: usize) -> u16
 }
 
 // The factors of a row, by column.
-fn line(row: usize) -> [u16; COLUMNS]
+// Stays: a clause on the row, here and in `naming` and `governing`, since definitions make a `Best` of any row, and each would owe the
+// fact; `terms::Row` has it.
+fn line(row: u8) -> [u16; COLUMNS]
     requires { row < row_count }
     ensures { result ≡ entries_in row }
 {
-    LINES[row]
+    LINES[usize::from(row)]
 }
 
 // The factor of a kind in a row.
 #[tactic(auto, unfolding(standard::specs::Rows::factor_of, standard::specs::Columns::entries_in))]
-pub fn factor(s: Settings, row: usize, kind: Kind) -> u16
+pub fn factor(s: Settings, row: u8, kind: Kind) -> u16
     requires { row < row_count }
     ensures { result ≡ factor_of s row (number_of kind) }
 {
@@ -109,9 +113,9 @@ pub fn factor(s: Settings, row: usize, kind: Kind) -> u16
 }
 
 // The kinds that have a factor in a row, as a set: bit j is kind j.
-pub fn kinds_in(row: usize) -> u16
+pub fn kinds_in(row: u8) -> u16
     requires { row < row_count }
     ensures { result ≡ kinds_in row }
 {
-    ROW_KINDS[row]
+    ROW_KINDS[usize::from(row)]
 }

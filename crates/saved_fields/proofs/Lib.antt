@@ -1,4 +1,3 @@
 pub mod Words
 pub mod Runs
 pub mod Lengths
-pub mod Signed

@@ -13,7 +13,9 @@ use std::io::{Read, Write};
 use std::time::Clock;
 use turns::Service;
 
-// Serves from a fresh sheet on. A proved loop ends, and no fact says that the input does: the turns are counted up to a number that no run reaches.
+// Serves from a fresh sheet on.
+// Stays: turns counted to a number that no run reaches, since no fact says that the input ends and `forever` needs the word Wait, which
+// HANDLES does not give.
 pub fn serve(
     rt: &(impl Eprint + Clock),
     stdin: &mut impl Read,

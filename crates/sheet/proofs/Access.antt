@@ -1,20 +1,21 @@
 -- What an accessor gives after each edit, at what was edited and elsewhere; and sheets that look the same are the same.
 -- Assumes nothing.
-use Prim.Native.Nat.{ℕ, ◌+◌, ◌*◌, ◌/◌, ◌%◌, ◌≤◌, ◌<◌}
-use mathlib.Core.Path.{◌≡◌, refl, sym, ◌∙◌}
+use Prim.Native.Nat.{ℕ, zero, suc, ◌+◌, ◌/◌, ◌%◌, ◌<◌}
+use mathlib.Core.Path.{◌≡◌, refl, sym, ap, ◌∙◌}
 use mathlib.Core.List.{[], ◌∷◌}
 use native.Mathlib.Omega.{arith}
 use lib.ListN.{length, get_or, length-set, length-replicate}
 use lib.Seq.{length-sets, ext_get_or, get_or-set_same, get_or-set_other}
 use lib.IntN.{ℤ, pos}
 use Rattle.standard.specs.declared.Settings.{Settings}
+use Rattle.standard.specs.declared.Capacities.{Capacities}
 use Rattle.standard.specs.Combination.{case_count}
 use Rattle.envelope.specs.Range.{station_count, component_count}
-use Rattle.wire.proofs.Stores.{sets_at_lem, replicate_all}
+use Rattle.wire.proofs.Stores.{replicate_all}
 use Rattle.sheet.specs.declared.Sheet.{Sheet}
-use Rattle.sheet.specs.Sheet.{kind_at, effect_at, capacity_count, capacity_at, fresh, with_kind, with_effects, with_capacities}
+use Rattle.sheet.specs.Sheet.{kind_at, effect_at, no_capacities, capacity_on, capacity_at, fresh, with_kind, with_effects, with_capacities}
 use Rattle.effects.specs.Effects.{effect_count, station_length, place, zeros}
-use Rattle.effects.proofs.Stored.{triple_other, effects_at_lem, effects_other, length_cleared, cleared_below, cleared_other}
+use Rattle.effects.proofs.Stored.{effects_at_lem, effects_other, length_cleared, cleared_below, cleared_other}
 use Rattle.dead_sums.specs.DeadSums.{sums_of}
 use Rattle.dead_sums.proofs.Sums.{none_summed}
 use Rattle.sheet.specs.Range.{InRange}
@@ -23,7 +24,7 @@ use Rattle.sheet.specs.Range.{InRange}
 pub record WellFormed (s : Sheet) : Type 0 where
   pub kinds : length s.kinds ≡ case_count
   pub effects : length s.effects ≡ effect_count
-  pub capacities : length s.capacities ≡ capacity_count
+  pub capacities : length s.capacities ≡ station_count
   pub sums : s.sums ≡ sums_of s.kinds s.effects
 
 pub well_formed : {s : Sheet} → InRange s → WellFormed s
@@ -34,7 +35,7 @@ unfolding fresh zeros
 fresh_formed settings = record {
   kinds = length-replicate {A = ℕ} case_count 0;
   effects = length-replicate effect_count (pos 0);
-  capacities = length-replicate {A = ℕ} capacity_count 0;
+  capacities = length-replicate station_count no_capacities;
   sums = none_summed (zeros effect_count);
 }
 
@@ -61,7 +62,7 @@ unfolding with_capacities
 capacities_formed s t n y z h = record {
   kinds = h.kinds;
   effects = h.effects;
-  capacities = length-sets s.capacities (t * 3) (n ∷ y ∷ z ∷ []) ∙ h.capacities;
+  capacities = length-set s.capacities t (record { n = n; y = y; z = z }) ∙ h.capacities;
   sums = h.sums;
 }
 
@@ -117,15 +118,21 @@ unfolding with_effects
 effects_leave_settings s k t n y z = refl
 
 -- ---- capacities that are replaced
+capacity_of_three : (n y z j : ℕ) → capacity_on (record { n = n; y = y; z = z }) j ≡ get_or (n ∷ y ∷ z ∷ []) j 0
+capacity_of_three n y z zero = refl
+capacity_of_three n y z (suc zero) = refl
+capacity_of_three n y z (suc (suc zero)) = refl
+capacity_of_three n y z (suc (suc (suc j))) = refl
+
 pub capacity_replaced : (s : Sheet) (t n y z j : ℕ) → WellFormed s → t < station_count → j < component_count → capacity_at (with_capacities s t n y z) t j ≡ get_or (n ∷ y ∷ z ∷ []) j 0
 unfolding capacity_at with_capacities
 capacity_replaced s t n y z j h a g =
-    let w : t * 3 + 3 ≤ length s.capacities = rw h.capacities (omega arith) in
-    sets_at_lem 0 (n ∷ y ∷ z ∷ []) s.capacities (t * 3) j g w
+    let w : t < length s.capacities = rw h.capacities a in
+    ap (λ (c : Capacities). capacity_on c j) (get_or-set_same s.capacities t (record { n = n; y = y; z = z }) no_capacities w) ∙ capacity_of_three n y z j
 
 pub capacity_other : (s : Sheet) (t n y z t' j : ℕ) → j < component_count → (t' ≡ t → ⊥) → capacity_at (with_capacities s t n y z) t' j ≡ capacity_at s t' j
 unfolding capacity_at with_capacities
-capacity_other s t n y z t' j g ne = triple_other 0 s.capacities (n ∷ y ∷ z ∷ []) refl (t * 3) (t' * 3) t t' j refl refl ne g
+capacity_other s t n y z t' j g ne = ap (λ (c : Capacities). capacity_on c j) (get_or-set_other s.capacities t t' (record { n = n; y = y; z = z }) no_capacities ne)
 
 pub capacities_leave_kind : (s : Sheet) (t n y z k : ℕ) → kind_at (with_capacities s t n y z) k ≡ kind_at s k
 unfolding with_capacities
@@ -158,7 +165,13 @@ fresh_effect settings k t j = fresh_stored settings (place k t + j)
 
 pub fresh_capacity : (settings : Settings) (t j : ℕ) → capacity_at (fresh settings) t j ≡ 0
 unfolding capacity_at fresh
-fresh_capacity settings t j = replicate_all (λ (n : ℕ). n ≡ 0) 0 0 refl refl capacity_count (t * 3 + j)
+fresh_capacity settings t j = replicate_all (λ (c : Capacities). capacity_on c j ≡ 0) no_capacities no_capacities (none j) (none j) station_count t
+  where
+    none : (i : ℕ) → capacity_on no_capacities i ≡ 0
+    none zero = refl
+    none (suc zero) = refl
+    none (suc (suc zero)) = refl
+    none (suc (suc (suc i))) = refl
 
 -- ---- sheets that look the same are the same: by what they hold beside their sums, which follow
 pub same_sheet : (a b : Sheet) → WellFormed a → WellFormed b → a.settings ≡ b.settings →
@@ -175,11 +188,8 @@ same_sheet a b p q s kinds effects capacities =
     let v : i / station_length < station_count = omega arith in
     let w : i % 3 < component_count = omega arith in
     rw f at (effects (i % station_length / 3) (i / station_length) (i % 3) u v w)) in
-    let c : a.capacities ≡ b.capacities = ext_get_or 0 a.capacities b.capacities (p.capacities ∙ sym q.capacities) (λ i h.
-    let l : i < capacity_count = rw p.capacities at h in
-    let f : i / 3 * 3 + i % 3 ≡ i = omega arith in
-    let u : i / 3 < station_count = omega arith in
-    let w : i % 3 < component_count = omega arith in
-    rw f at (capacities (i / 3) (i % 3) u w)) in
+    let c : a.capacities ≡ b.capacities = ext_get_or no_capacities a.capacities b.capacities (p.capacities ∙ sym q.capacities) (λ t h.
+    let l : t < station_count = rw p.capacities at h in
+    λ i. record { n = capacities t 0 l (omega arith) i; y = capacities t 1 l (omega arith) i; z = capacities t 2 l (omega arith) i }) in
     let u : a.sums ≡ b.sums = p.sums ∙ (λ i. sums_of (k i) (e i)) ∙ sym q.sums in
     λ i. record { settings = s i; kinds = k i; effects = e i; sums = u i; capacities = c i }

@@ -1,6 +1,6 @@
 -- The edits of a place and of its effects, from what the calls within them ensure.
 -- Assumes nothing.
-use Prim.Native.Nat.{ℕ, ◌+◌, ◌*◌, ◌<◌}
+use Prim.Native.Nat.{ℕ, ◌<◌}
 use native.Mathlib.Omega.{arith}
 use mathlib.Core.List.{List, [], ◌∷◌}
 use mathlib.Core.Path.{◌≡◌, sym, ap, ◌∙◌}
@@ -8,18 +8,18 @@ use lib.IntN.{ℤ, pos}
 use lib.ListN.{set}
 use lib.Seq.{sets}
 use Rattle.standard.specs.Combination.{case_count}
+use Rattle.envelope.specs.declared.StationSums.{StationSums}
 use Rattle.envelope.specs.Range.{station_count, component_count}
-use Rattle.wire.proofs.Stores.{sets3}
 use Rattle.effects.specs.Effects.{effect_in, place, cleared}
 use Rattle.effects.proofs.Stored.{cleared_below, cleared_none}
 use Rattle.dead_sums.specs.DeadSums.{sums_of, SumsHeld}
 use Rattle.dead_sums.proofs.Sums.{any_kind}
 use Rattle.sheet.specs.declared.Sheet.{Sheet}
-use Rattle.sheet.specs.Sheet.{kind_at, effect_at, with_kind, with_effects, with_capacities}
+use Rattle.sheet.specs.Sheet.{kind_at, effect_at, with_kind, with_effects}
 use Rattle.sheet.specs.Range.{InRange}
 
 -- a sheet with other kinds, effects and sums
-abbrev pub with_lists : Sheet → List ℕ → List ℤ → List ℤ → Sheet
+abbrev pub with_lists : Sheet → List ℕ → List ℤ → List StationSums → Sheet
 with_lists s kinds effects sums = record { settings = s.settings; kinds = kinds; effects = effects; sums = sums; capacities = s.capacities }
 
 -- what the stores on effects ask of a sheet in range
@@ -28,7 +28,7 @@ sums_held h = record { effects_long = h.effects_long; effects_range = h.effects_
 
 module _ (s : Sheet) (case : ℕ) where
   -- a place emptied: its effects are cleared while it holds its kind
-  pub emptied : {effects sums : List ℤ} → InRange s → case < case_count → effects ≡ cleared s.effects case station_count → sums ≡ sums_of s.kinds effects →
+  pub emptied : {effects : List ℤ} {sums : List StationSums} → InRange s → case < case_count → effects ≡ cleared s.effects case station_count → sums ≡ sums_of s.kinds effects →
       with_lists s (set s.kinds case 0) effects sums ≡ with_kind s case 0
   unfolding with_kind
   emptied h l e z =
@@ -46,23 +46,10 @@ module _ (s : Sheet) (case : ℕ) where
       ((h.sums_true ∙ sym (any_kind s.kinds s.effects case kind none) ∙ ap (sums_of (set s.kinds case kind)) same) i)
 
   -- a case's three effects replaced
-  pub replaced : (station : ℕ) {effects sums : List ℤ} {n' y' z' n y z : ℤ} →
+  pub replaced : (station : ℕ) {effects : List ℤ} {sums : List StationSums} {n' y' z' n y z : ℤ} →
       effects ≡ sets s.effects (place case station) (n' ∷ y' ∷ z' ∷ []) → sums ≡ sums_of s.kinds effects → n' ≡ n → y' ≡ y → z' ≡ z →
       with_lists s s.kinds effects sums ≡ with_effects s case station n y z
   unfolding with_effects
   replaced station e u n y z =
       let same = e ∙ (λ i. sets s.effects (place case station) (n i ∷ y i ∷ z i ∷ [])) in
       λ i. with_lists s s.kinds (same i) ((u ∙ ap (sums_of s.kinds) same) i)
-
--- a station's three capacities replaced, as code stores them
-pub capacities_stored : (s : Sheet) (station n y z : ℕ) →
-    ◌≡◌ {A = Sheet} (record {
-      settings = s.settings;
-      kinds = s.kinds;
-      effects = s.effects;
-      sums = s.sums;
-      capacities = set (set (set s.capacities (station * 3) n) (station * 3 + 1) y) (station * 3 + 2) z;
-    }) (with_capacities s station n y z)
-unfolding with_capacities
-capacities_stored s station n y z =
-    ap (λ l. record { settings = s.settings; kinds = s.kinds; effects = s.effects; sums = s.sums; capacities = l }) (sets3 s.capacities (station * 3) n y z)

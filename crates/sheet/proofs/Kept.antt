@@ -2,15 +2,16 @@
 -- Assumes nothing.
 use Prim.Native.Nat.{ℕ, zero, suc, ◌<◌, zero-le}
 use mathlib.Core.Path.{◌≡◌, refl, sym, ◌∙◌}
-use mathlib.Core.List.{[], ◌∷◌}
+use mathlib.Core.List.{List, [], ◌∷◌}
 use mathlib.Core.Bool.{true, false}
 use mathlib.Core.Logic.{⊎_elim, inl, inr}
 use native.Mathlib.Omega.{arith}
 use lib.Dec.{eqb}
-use lib.ListN.{get_or}
+use lib.ListN.{length, get_or}
 use lib.IntN.{pos}
 use borrow.Author.Tests.{eqb-true}
 use Rattle.standard.specs.declared.Settings.{Settings}
+use Rattle.standard.specs.declared.Capacities.{Capacities}
 use Rattle.standard.specs.Range.{SettingsInRange}
 use Rattle.standard.specs.Rows.{settings_of, switched, strained, fresh_settings}
 use Rattle.standard.specs.Kinds.{kind_count}
@@ -20,7 +21,7 @@ use Rattle.wire.specs.Bytes.{signed16}
 use Rattle.wire.proofs.Cases.{either, eq_or_ne}
 use Rattle.wire.proofs.Stores.{set_keep, sets_keep}
 use Rattle.sheet.specs.declared.Sheet.{Sheet}
-use Rattle.sheet.specs.Sheet.{kind_at, effect_at, capacity_at, fresh, fresh_sheet, with_kind, with_effects, with_capacities, with_settings, with_switch, with_straining}
+use Rattle.sheet.specs.Sheet.{kind_at, effect_at, capacity_in, capacity_at, fresh, fresh_sheet, with_kind, with_effects, with_capacities, with_settings, with_switch, with_straining}
 use Rattle.effects.specs.Effects.{place}
 use Rattle.effects.proofs.Stored.{Within, cleared_within}
 use Rattle.refusals.specs.Refusals.{due_settings, due_capacities, due_switch}
@@ -104,25 +105,33 @@ effects_kept s k t n y z h e =
 same_capacities : {f g : ℕ → ℕ} → ((j : ℕ) → j < 3 → f j ≡ g j) → AllOrNone (g 0) (g 1) (g 2) → AllOrNone (f 0) (f 1) (f 2)
 same_capacities e w = rw (e 0 (omega arith), e 1 (omega arith), e 2 (omega arith)) w
 
-pub capacities_kept : (s : Sheet) (t n y z : ℕ) → InRange s → due_capacities t n y z ≡ 0 → InRange (with_capacities s t n y z)
-unfolding with_capacities effect_at
-capacities_kept s t n y z h e =
-    let f = capacities_range t n y z e in
-    let l = capacities_formed s t n y z (well_formed h) in
+-- the cases and their effects stay: other settings, other capacities
+cases_stay : (s : Sheet) (settings : Settings) (capacities : List Capacities) → InRange s → SettingsInRange settings → length capacities ≡ station_count →
+    ((t : ℕ) → t < station_count → AllOrNone (capacity_in capacities t 0) (capacity_in capacities t 1) (capacity_in capacities t 2)) →
+    InRange (record { settings = settings; kinds = s.kinds; effects = s.effects; sums = s.sums; capacities = capacities })
+unfolding effect_at capacity_at
+cases_stay s settings capacities h range long whole =
     record {
-      settings = h.settings;
-      kinds_long = l.kinds;
-      effects_long = l.effects;
-      capacities_long = l.capacities;
+      settings = range;
+      kinds_long = h.kinds_long;
+      effects_long = h.effects_long;
+      capacities_long = long;
       kinds_range = h.kinds_range;
       effects_range = h.effects_range;
       empty_zero = h.empty_zero;
-      sums_true = l.sums;
-      capacities_whole = λ u c. ⊎_elim
-          (λ (r : u ≡ t). rw r (same_capacities (λ j g. capacity_replaced s t n y z j (well_formed h) f.station g) (inr (f.n, f.y, f.z))))
-          (λ (ne : u ≡ t → ⊥). same_capacities (λ j g. capacity_other s t n y z u j g ne) (h.capacities_whole u c))
-          (eq_or_ne u t);
+      sums_true = h.sums_true;
+      capacities_whole = whole;
     }
+
+pub capacities_kept : (s : Sheet) (t n y z : ℕ) → InRange s → due_capacities t n y z ≡ 0 → InRange (with_capacities s t n y z)
+unfolding with_capacities capacity_at
+capacities_kept s t n y z h e =
+    let f = capacities_range t n y z e in
+    let l = capacities_formed s t n y z (well_formed h) in
+    cases_stay s s.settings _ h h.settings l.capacities (λ u c. ⊎_elim
+    (λ (r : u ≡ t). rw r (same_capacities (λ j g. capacity_replaced s t n y z j (well_formed h) f.station g) (inr (f.n, f.y, f.z))))
+    (λ (ne : u ≡ t → ⊥). same_capacities (λ j g. capacity_other s t n y z u j g ne) (h.capacities_whole u c))
+    (eq_or_ne u t))
 
 -- an edit as its refusals allow it
 pub tried_kept : (d : ℕ) (s s' : Sheet) → InRange s → (d ≡ 0 → InRange s') → InRange (unless_refused d s s').sheet
@@ -139,19 +148,8 @@ restarted s method live zone h =
     (λ e. fresh_in_range (settings_of method live zone) (settings_range method live zone e))
 
 settings_kept : (s : Sheet) (settings : Settings) → InRange s → SettingsInRange settings → InRange (with_settings s settings)
-unfolding with_settings effect_at capacity_at
-settings_kept s settings h range =
-    record {
-      settings = range;
-      kinds_long = h.kinds_long;
-      effects_long = h.effects_long;
-      capacities_long = h.capacities_long;
-      kinds_range = h.kinds_range;
-      effects_range = h.effects_range;
-      empty_zero = h.empty_zero;
-      sums_true = h.sums_true;
-      capacities_whole = h.capacities_whole;
-    }
+unfolding with_settings capacity_at
+settings_kept s settings h range = cases_stay s settings s.capacities h range h.capacities_long h.capacities_whole
 
 pub switch_kept : (s : Sheet) (byte : ℕ) → InRange s → due_switch byte ≡ 0 → InRange (with_switch s byte)
 switch_kept s byte h e =

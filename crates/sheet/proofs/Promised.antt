@@ -2,7 +2,7 @@
 -- Assumes nothing.
 use Prim.Native.Nat.{ℕ, ◌≤◌, ◌<◌}
 use mathlib.Core.Path.{◌≡◌, refl, sym, ap, ◌∙◌, subst}
-use mathlib.Core.Logic.{◌⊎◌, inl, inr}
+use mathlib.Core.Logic.{⊎_elim}
 use native.Mathlib.Omega.{arith}
 use lib.ListN.{get_or-eq_default}
 use lib.IntN.{ℤ, pos, ◌*ℤ◌}
@@ -71,17 +71,25 @@ module _ (s : Settings) (kind : ℕ → ℕ) where
     }
 
 -- ---- an answer tells what it holds
-same_extremes : {x y : extremes.Extremes} → answer.Extremes x ≡ answer.Extremes y → x ≡ y
-same_extremes e = cc
+same_extremes : (x y : extremes.Extremes) → answer.Extremes x ≡ answer.Extremes y → x ≡ y
+same_extremes x y e = cc
 
-not_extremes : {n : ℕ} {x : extremes.Extremes} → answer.Refused n ≡ answer.Extremes x → ⊥
-not_extremes e = let z : ◌≡◌ {A = ℕ} 0 1 = cc in omega arith
+not_extremes : (n : ℕ) (x : extremes.Extremes) → answer.Refused n ≡ answer.Extremes x → ⊥
+not_extremes n x e = let z : ◌≡◌ {A = ℕ} 0 1 = cc in omega arith
 
-same_utilisation : {x y : Utilised} → answer.Utilisation x ≡ answer.Utilisation y → x ≡ y
-same_utilisation e = cc
+same_utilisation : (x y : Utilised) → answer.Utilisation x ≡ answer.Utilisation y → x ≡ y
+same_utilisation x y e = cc
 
-not_utilisation : {n : ℕ} {x : Utilised} → answer.Refused n ≡ answer.Utilisation x → ⊥
-not_utilisation e = let z : ◌≡◌ {A = ℕ} 0 1 = cc in omega arith
+not_utilisation : (n : ℕ) (x : Utilised) → answer.Refused n ≡ answer.Utilisation x → ⊥
+not_utilisation n x e = let z : ◌≡◌ {A = ℕ} 0 1 = cc in omega arith
+
+-- where a look answers so, no refusal is due, and what it holds is what was found
+found : {X : Type 0} (made : X → Answer) → ((x y : X) → made x ≡ made y → x ≡ y) → ((n : ℕ) (x : X) → answer.Refused n ≡ made x → ⊥) →
+    (due : ℕ) (is x : X) {r : Answer} → r ≡ unless_due due (made is) → r ≡ made x → (due ≡ 0) × (is ≡ x)
+found made same not due is x e q = ⊎_elim
+    (λ (z : due ≡ 0). (z, same is x (answered_none due (made is) z ∙ (sym e ∙ q))))
+    (λ (n : due ≡ 0 → ⊥). absurd (not due x (answered_due due (made is) refl n ∙ (sym e ∙ q))))
+    (eq_or_ne due 0)
 
 -- ---- a sheet in range
 module _ (w : Sheet) (h : InRange w) where
@@ -108,33 +116,18 @@ module _ (w : Sheet) (h : InRange w) where
       }
 
   -- the answers of the looks
-  extremes_promised : (t j : ℕ) (r : Answer) → r ≡ unless_due (due_extremes t j) (answer.Extremes (extremes_at w t j)) → ExtremesPromised w t j r
-  extremes_promised t j r e = record { govern = λ x q. go x (sym e ∙ q) (eq_or_ne (due_extremes t j) 0) }
-    where
-      go : (x : extremes.Extremes) → unless_due (due_extremes t j) (answer.Extremes (extremes_at w t j)) ≡ answer.Extremes x →
-          (due_extremes t j ≡ 0) ⊎ (due_extremes t j ≡ 0 → ⊥) → ExtremesGovern w.settings (kind_at w) (λ k. effect_at w k t j) x
-      go x q (inl z) =
-          let is : extremes_at w t j ≡ x = same_extremes (answered_none (due_extremes t j) (answer.Extremes (extremes_at w t j)) z ∙ q) in
-          let f = extremes_range t j z in
-          subst (ExtremesGovern w.settings (kind_at w) (λ k. effect_at w k t j)) is (extremes_govern_at t j f.0 f.1)
-      go x q (inr n) = absurd (not_extremes (answered_due (due_extremes t j) (answer.Extremes (extremes_at w t j)) refl n ∙ q))
+  pub extremes_promised : (t j : ℕ) (r : Answer) → r ≡ unless_due (due_extremes t j) (answer.Extremes (extremes_at w t j)) → ExtremesPromised w t j r
+  extremes_promised t j r e = record {
+    govern = λ x q.
+        let f = found answer.Extremes same_extremes not_extremes (due_extremes t j) (extremes_at w t j) x e q in
+        let range = extremes_range t j f.0 in
+        subst (ExtremesGovern w.settings (kind_at w) (λ k. effect_at w k t j)) f.1 (extremes_govern_at t j range.0 range.1);
+  }
 
-  utilisation_promised : (t : ℕ) (r : Answer) → r ≡ unless_due (due_utilisation w t) (answer.Utilisation (utilisation_at w t)) → UtilisationPromised w t r
-  utilisation_promised t r e = record { governs = λ x q. go x (sym e ∙ q) (eq_or_ne (due_utilisation w t) 0) }
-    where
-      go : (x : Utilised) → unless_due (due_utilisation w t) (answer.Utilisation (utilisation_at w t)) ≡ answer.Utilisation x →
-          (due_utilisation w t ≡ 0) ⊎ (due_utilisation w t ≡ 0 → ⊥) → UtilisationGoverns w.settings (kind_at w) (λ k j. effect_at w k t j) (capacities_at w t) x
-      go x q (inl z) =
-          let is : utilisation_at w t ≡ x = same_utilisation (answered_none (due_utilisation w t) (answer.Utilisation (utilisation_at w t)) z ∙ q) in
-          subst (UtilisationGoverns w.settings (kind_at w) (λ k j. effect_at w k t j) (capacities_at w t)) is
-          (utilisation_governs_at t (utilisation_range (capacity_at w t 0) t z).0)
-      go x q (inr n) = absurd (not_utilisation (answered_due (due_utilisation w t) (answer.Utilisation (utilisation_at w t)) refl n ∙ q))
-
-  -- the equation of a look, and with it the promise
-  pub with_extremes : (t j : ℕ) (r : Answer) → r ≡ unless_due (due_extremes t j) (answer.Extremes (extremes_at w t j)) →
-      (r ≡ unless_due (due_extremes t j) (answer.Extremes (extremes_at w t j))) × ExtremesPromised w t j r
-  with_extremes t j r e = (e, extremes_promised t j r e)
-
-  pub with_utilisation : (t : ℕ) (r : Answer) → r ≡ unless_due (due_utilisation w t) (answer.Utilisation (utilisation_at w t)) →
-      (r ≡ unless_due (due_utilisation w t) (answer.Utilisation (utilisation_at w t))) × UtilisationPromised w t r
-  with_utilisation t r e = (e, utilisation_promised t r e)
+  pub utilisation_promised : (t : ℕ) (r : Answer) → r ≡ unless_due (due_utilisation w t) (answer.Utilisation (utilisation_at w t)) → UtilisationPromised w t r
+  utilisation_promised t r e = record {
+    governs = λ x q.
+        let f = found answer.Utilisation same_utilisation not_utilisation (due_utilisation w t) (utilisation_at w t) x e q in
+        subst (UtilisationGoverns w.settings (kind_at w) (λ k j. effect_at w k t j) (capacities_at w t)) f.1
+        (utilisation_governs_at t (utilisation_range (capacity_at w t 0) t f.0).0);
+  }

@@ -9,11 +9,10 @@ use Rattle.refusals.specs.declared.Refusal.{Refusal}
 use Rattle.refusals.specs.Numbers.{number}
 use Rattle.refusals.proofs.Numbers.{number_some}
 use Rattle.sheet.specs.declared.Sheet.{Sheet}
-use Rattle.sheet.specs.declared.Edited.{Edited}
 use Rattle.sheet.specs.declared.Answer.{Answer}
 use Rattle.sheet.specs.declared.Answer.TheVariants as answer
 use Rattle.sheet.specs.Looks.{unless_due, as_answer, edited, answered}
-use Rattle.sheet.specs.Edits.{unless_refused}
+use Rattle.sheet.specs.Edits.{Edited, unless_refused}
 
 -- an edit whose refusals are tried: made where none is due, else not
 pub tried_none : (d : ℕ) (s s' : Sheet) {x : Sheet} → d ≡ 0 → x ≡ s' → ◌≡◌ {A = Edited} (record { refusal = 0; sheet = x }) (unless_refused d s s')
@@ -39,9 +38,14 @@ refused d s s' {replied} {refusal} is e =
     let some : number refusal ≡ 0 → ⊥ = λ z. omega (arith, number_some refusal) in
     ap (λ r. answered r s) is ∙ ap (λ a. record { answer = a; sheet = s }) (answered_due (number refusal) answer.Accepted refl some) ∙ ap edited (tried_due d s s' e some)
 
--- the same of a look
-pub looked_none : (d : ℕ) (a : Answer) {b : Answer} → 0 ≡ d → b ≡ a → b ≡ unless_due d a
-looked_none d a e f = f ∙ answered_none d a (sym e)
+-- the same of a look, with what it promises of every answer that is due
+module _ (d : ℕ) (a : Answer) (Promised : Answer → Type 0) (promise : (r : Answer) → r ≡ unless_due d a → Promised r) where
+  with_promise : {r : Answer} → r ≡ unless_due d a → (r ≡ unless_due d a) × Promised r
+  with_promise {r} e = (e, promise r e)
 
-pub looked_refused : (d : ℕ) (a : Answer) {replied : Result Answer Refusal} {refusal : Refusal} → replied ≡ Err refusal → number refusal ≡ d → as_answer replied ≡ unless_due d a
-looked_refused d a {replied} {refusal} is e = ap as_answer is ∙ answered_due d a e (λ z. omega (arith, number_some refusal))
+  pub looked : {b : Answer} → 0 ≡ d → b ≡ a → (b ≡ unless_due d a) × Promised b
+  looked e f = with_promise (f ∙ answered_none d a (sym e))
+
+  pub look_refused : {replied : Result Answer Refusal} {refusal : Refusal} → replied ≡ Err refusal → number refusal ≡ d →
+      (as_answer replied ≡ unless_due d a) × Promised (as_answer replied)
+  look_refused {replied} {refusal} is e = with_promise (ap as_answer is ∙ answered_due d a e (λ z. omega (arith, number_some refusal)))

@@ -1,7 +1,6 @@
 -- The station of a sheet in range is in the envelope's range, its effects are those that the accessor gives, and its sums are the totals.
 -- Assumes nothing.
 use Prim.Native.Nat.{ℕ, suc, ◌+◌, ◌*◌, ◌<◌, ◌≤◌}
-use native.Mathlib.Nat.{add-zero}
 use native.Mathlib.Omega.{arith}
 use mathlib.Core.Bool.{false, cond}
 use mathlib.Core.List.{List}
@@ -11,31 +10,28 @@ use lib.ListN.{length, get_or, length-take, length-drop, get_or-eq_default}
 use lib.Seq.{get_or-take, get_or-drop}
 use lib.IntN.{ℤ, pos, nat_abs}
 use Rattle.wire.proofs.Cases.{lt_or_ge}
-use Rattle.standard.specs.declared.Capacities.{Capacities}
 use Rattle.standard.specs.Combination.{case_count}
 use Rattle.optimum.specs.Row.{total_of}
+use Rattle.envelope.specs.declared.StationSums.{StationSums}
 use Rattle.envelope.specs.Range.{kind_of, effect_of, effect_limit, capacity_limit, station_count, component_count, StationInRange, CapacitiesInRange}
 use Rattle.sums.specs.Sums.{total_count, TotalsHeld}
 use Rattle.integers.proofs.Linear.{where_agrees}
 use Rattle.effects.specs.Effects.{station_length, effect_in, place}
-use Rattle.dead_sums.specs.DeadSums.{station_sums, dead_sum_count, sum_place, sum_in, of_dead_kind}
-use Rattle.dead_sums.proofs.Sums.{sums_long, sum_is}
+use Rattle.dead_sums.specs.DeadSums.{no_sums, sum_in, station_by, of_dead_kind}
+use Rattle.dead_sums.proofs.Sums.{station_is, three_long, sum_is}
 use Rattle.sheet.specs.declared.Sheet.{Sheet}
 use Rattle.sheet.specs.Sheet.{totals_in, effect_at, capacity_at}
-use Rattle.refusals.specs.Refusals.{capacity_outside}
+use Rattle.refusals.specs.Refusals.{capacity_outside, due_extremes, due_utilisation_at}
 use Rattle.sheet.specs.Range.{InRange}
 use Rattle.sheet.specs.Looks.{station_effects, capacities_at}
-use Rattle.refusals.proofs.Fits.{inside}
+use Rattle.refusals.proofs.Fits.{inside, extremes_range, utilisation_range}
 
--- the sums of a station of a sheet
-abbrev pub station_totals : Sheet → ℕ → List ℤ
-station_totals s t = totals_in s.sums t
+-- a look that is not refused is at a station
+pub looks_at_station : (t j : ℕ) → 0 ≡ due_extremes t j → t < station_count
+looks_at_station t j e = (extremes_range t j (sym e)).0
 
--- the capacities, as the code reads them
-pub capacities_read : (s : Sheet) (t : ℕ) →
-    ◌≡◌ {A = Capacities} (record { n = get_or s.capacities (t * 3) 0; y = get_or s.capacities (t * 3 + 1) 0; z = get_or s.capacities (t * 3 + 2) 0 }) (capacities_at s t)
-unfolding capacities_at capacity_at
-capacities_read s t = λ i. record { n = get_or s.capacities (sym (add-zero (t * 3)) i) 0; y = get_or s.capacities (t * 3 + 1) 0; z = get_or s.capacities (t * 3 + 2) 0 }
+pub looks_at_capacities : (held t : ℕ) → 0 ≡ due_utilisation_at held t → t < station_count
+looks_at_capacities held t e = (utilisation_range held t (sym e)).0
 
 module _ (s : Sheet) (t : ℕ) (h : InRange s) (l : t < station_count) where
   station_long : length (station_effects s t) ≡ station_length
@@ -62,27 +58,22 @@ module _ (s : Sheet) (t : ℕ) (h : InRange s) (l : t < station_count) where
       let e : t * station_length + (k * 3 + j) ≡ place k t + j = omega arith in
       station_at (k * 3 + j) (omega arith) ∙ ap (λ (i : ℕ). get_or s.effects i (pos 0)) e
 
-  pub sums_long_at : length s.sums ≡ dead_sum_count
-  sums_long_at = ap length h.sums_true ∙ sums_long (of_dead_kind s.kinds) s.effects
-
   -- the sums held for the station are the totals of its D and F cases
-  pub totals_held : TotalsHeld (station_totals s t) s.kinds (station_effects s t)
+  pub totals_held : TotalsHeld (totals_in s.sums t) s.kinds (station_effects s t)
   unfolding total_of effect_at
   totals_held = record {
-    long = simp (length-take, length-drop) (omega (arith, sums_long_at));
+    dead_long = rw held (three_long (of_dead_kind s.kinds) s.effects t).0;
+    fluid_long = rw held (three_long (of_dead_kind s.kinds) s.effects t).1;
     are = record { on = λ c b. record { each = λ j m. total c b j m } };
   }
     where
-      read : (c : ℕ) → c < component_count → (j : ℕ) → j < total_count → effect_of (station_totals s t) j c ≡ sum_in s.sums j t c
-      read c b j m =
-          let e : t * station_sums + (j * 3 + c) ≡ sum_place j t + c = omega arith in
-          let i : j * 3 + c < station_sums = omega arith in
-          rw (get_or-take, get_or-drop) (ap (λ (n : ℕ). get_or s.sums n (pos 0)) e)
+      held : totals_in s.sums t ≡ station_by (of_dead_kind s.kinds) s.effects t
+      held = rw h.sums_true (station_is (of_dead_kind s.kinds) s.effects t no_sums l)
 
-      total : (c : ℕ) → c < component_count → (j : ℕ) → j < total_count → effect_of (station_totals s t) j c ≡ total_of (kind_of s.kinds) (λ k. effect_of (station_effects s t) k c) (suc j)
+      total : (c : ℕ) → c < component_count → (j : ℕ) → j < total_count →
+          sum_in s.sums j t c ≡ total_of (kind_of s.kinds) (λ k. effect_of (station_effects s t) k c) (suc j)
       total c b j m =
-          read c b j m
-          ∙ ap (λ (x : List ℤ). sum_in x j t c) h.sums_true
+          ap (λ (x : List StationSums). sum_in x j t c) h.sums_true
           ∙ sum_is (of_dead_kind s.kinds) s.effects j t c m l b
           ∙ where_agrees case_count (of_dead_kind s.kinds j) (of_dead_kind s.kinds j) (λ k. effect_in s.effects k t c) (λ k. effect_of (station_effects s t) k c)
           (λ k n. ap (λ (x : ℤ). cond (of_dead_kind s.kinds j k) x (pos 0)) (sym (effect_seen k c n b)))

@@ -14,8 +14,8 @@ use Rattle.sheet.specs.declared.Sheet.{Sheet}
 use Rattle.sheet.specs.declared.Answer.{Answer}
 use Rattle.sheet.specs.declared.Answer.TheVariants as answer
 use Rattle.sheet.specs.declared.Answered.{Answered}
-use Rattle.sheet.specs.declared.Edited.{Edited}
 use Rattle.sheet.specs.Sheet.{kind_at, effect_at, capacity_at}
+use Rattle.sheet.specs.Edits.{Edited}
 
 -- the effects of a station, three of each case
 unfoldable pub station_effects : Sheet → ℕ → List ℤ

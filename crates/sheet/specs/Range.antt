@@ -8,7 +8,7 @@ use Rattle.refusals.specs.Refusals.{capacity_outside}
 use Rattle.effects.specs.Effects.{effect_count}
 use Rattle.dead_sums.specs.DeadSums.{sums_of}
 use Rattle.sheet.specs.declared.Sheet.{Sheet}
-use Rattle.sheet.specs.Sheet.{kind_at, effect_at, capacity_count, capacity_at}
+use Rattle.sheet.specs.Sheet.{kind_at, effect_at, capacity_at}
 
 -- three capacities, or none (SCOPE 2.5)
 abbrev pub AllOrNone : ℕ → ℕ → ℕ → Type 0
@@ -20,7 +20,7 @@ pub record InRange (s : Sheet) : Type 0 where
   pub settings : SettingsInRange s.settings
   pub kinds_long : length s.kinds ≡ case_count
   pub effects_long : length s.effects ≡ effect_count
-  pub capacities_long : length s.capacities ≡ capacity_count
+  pub capacities_long : length s.capacities ≡ station_count
   pub kinds_range : (k : ℕ) → kind_at s k < kind_count
   pub effects_range : (i : ℕ) → nat_abs (get_or s.effects i (pos 0)) ≤ effect_limit
   -- an empty place holds zeros (SCOPE 5.2)

@@ -10,25 +10,26 @@ ghost use Rattle.refusals.specs.Refusals.{due_settings, due_capacities, due_extr
 ghost use Rattle.effects.specs.Effects.{station_in};
 ghost use Rattle.sheet.specs.Sheet.{fresh, kind_at, capacity_at, totals_in, with_kind, with_effects, with_capacities, with_settings, with_switch, with_straining};
 ghost use Rattle.sheet.specs.Range.{InRange};
-ghost use Rattle.sheet.specs.Looks.{extremes_at, utilisation_at, unless_due, edited, as_answer, answered, capacities_at, due_utilisation, looked_extremes, looked_utilisation, ExtremesPromised, UtilisationPromised};
+ghost use Rattle.sheet.specs.Looks.{extremes_at, utilisation_at, unless_due, edited, as_answer, answered, due_utilisation, looked_extremes, looked_utilisation, ExtremesPromised, UtilisationPromised};
 ghost use Rattle.sheet.specs.Edits.{due_fill, due_effects, due_empty, due_factor, unless_refused};
 
-use dead_sums::{DEAD_SUMS, DeadSums, STATION_SUMS};
-use effects::{COMPONENTS, EFFECTS, Effects, STATION_EFFECTS, STATIONS};
-use envelope::{Extremes, Utilised};
-use refusals::Refusal;
+use dead_sums::{DeadSums, NO_SUMS};
+use effects::{EFFECTS, Effects, STATION_EFFECTS, STATIONS};
+use envelope::{Extremes, StationSums, Utilised};
+use refusals::{EffectWords, Refusal};
 use standard::{CASES, Capacities, Settings};
 
-// Stays: one flat array, as the definitions and the saved form read a capacity by station and component.
-const CAPACITIES: usize = STATIONS * COMPONENTS;
+// What a station without capacities holds.
+const NO_CAPACITIES: Capacities = Capacities { n: 0, y: 0, z: 0 };
 
+// Stays: the range is a clause and no fact of the type, since save and the edits that need no range take a sheet of any values.
 #[derive(Clone, Copy)]
 pub struct Sheet {
     pub settings: Settings,
     pub kinds: [u8; CASES],
     pub effects: Effects,
     pub sums: DeadSums,
-    pub capacities: [u16; CAPACITIES],
+    pub capacities: [Capacities; STATIONS],
 }
 
 // What reading a field answers.
@@ -60,13 +61,7 @@ pub struct Answered {
     pub sheet: Sheet,
 }
 
-// For the definitions: the refusal of an edit, or 0, and the sheet after it.
-#[derive(Clone, Copy)]
-pub struct Edited {
-    pub refusal: u8,
-    pub sheet: Sheet,
-}
-
+// Stays: a field's arguments are the bytes and words of its body, since each that is no case, kind, station or component is refused by its number.
 impl Sheet {
     pub fn fresh(settings: Settings) -> Sheet
         ensures { result ≡ fresh settings }
@@ -75,8 +70,8 @@ impl Sheet {
             settings,
             kinds: [0; CASES],
             effects: [0; EFFECTS],
-            sums: [0; DEAD_SUMS],
-            capacities: [0; CAPACITIES],
+            sums: [NO_SUMS; STATIONS],
+            capacities: [NO_CAPACITIES; STATIONS],
         }
     }
 
@@ -101,8 +96,7 @@ impl Sheet {
     // Tag 02, in place. An empty place has no effects, so that none is stored, and no sum changes.
     #[tactic(auto, using(crate::proofs::Refusals::refused))]
     pub fn fill_in(&mut self, case: u8, kind: u8) -> Result<Answer, Refusal>
-        requires { InRange self.old }
-        ensures { answered result self.new ≡ edited (unless_refused (due_fill self.old case kind) self.old (with_kind self.old case kind)) }
+        ensures { InRange self.old → answered result self.new ≡ edited (unless_refused (due_fill self.old case kind) self.old (with_kind self.old case kind)) }
     {
         refusals::check_fill(case, kind, self.kind(case))?;
         self.kinds[usize::from(case)] = kind;
@@ -110,20 +104,18 @@ impl Sheet {
     }
 
     // Tag 03, in place.
-    // Stays: three numbers, here and in tag 05, since the clauses name each by its own refusal.
     #[tactic(auto, using(crate::proofs::Refusals::refused))]
     pub fn replace_effects_in(
         &mut self,
         case: u8,
         station: u8,
-        n: u16,
-        y: u16,
-        z: u16,
+        words: EffectWords,
     ) -> Result<Answer, Refusal>
         requires { InRange self.old }
-        ensures { answered result self.new ≡ edited (unless_refused (due_effects self.old case station n y z) self.old (with_effects self.old case station (signed16 n) (signed16 y) (signed16 z))) }
+        ensures { answered result self.new ≡ edited (unless_refused (due_effects self.old case station words.n words.y words.z) self.old (with_effects self.old case station (signed16 words.n) (signed16 words.y) (signed16 words.z))) }
     {
-        refusals::check_effects(case, station, n, y, z, self.kind(case))?;
+        refusals::check_effects(case, station, words, self.kind(case))?;
+        let EffectWords { n, y, z } = words;
         let values = [n.cast_signed(), y.cast_signed(), z.cast_signed()];
         dead_sums::put_effects(
             &mut self.effects,
@@ -154,17 +146,12 @@ impl Sheet {
     pub fn replace_capacities_in(
         &mut self,
         station: u8,
-        n: u16,
-        y: u16,
-        z: u16,
+        capacities: Capacities,
     ) -> Result<Answer, Refusal>
-        ensures { answered result self.new ≡ edited (unless_refused (due_capacities station n y z) self.old (with_capacities self.old station n y z)) }
+        ensures { answered result self.new ≡ edited (unless_refused (due_capacities station capacities.n capacities.y capacities.z) self.old (with_capacities self.old station capacities.n capacities.y capacities.z)) }
     {
-        refusals::check_capacities(station, n, y, z)?;
-        let at = usize::from(station) * COMPONENTS;
-        self.capacities[at] = n;
-        self.capacities[at + 1] = y;
-        self.capacities[at + 2] = z;
+        refusals::check_capacities(station, capacities)?;
+        self.capacities[usize::from(station)] = capacities;
         Ok(Answer::Accepted)
     }
 
@@ -198,6 +185,7 @@ impl Sheet {
     }
 
     // The effects of a station.
+    // Stays: a part by its position, since the effects stand flat, and a clause on the station, in range only after a field's refusals.
     fn station_effects(&self, station: usize) -> &[i16]
         requires { station < station_count }
         ensures { result.now ≡ station_in self.now.effects station }
@@ -207,54 +195,44 @@ impl Sheet {
     }
 
     // The sums of a station.
-    fn station_sums(&self, station: usize) -> &[i64]
+    fn station_sums(&self, station: usize) -> &StationSums
         requires { station < station_count }
         ensures { result.now ≡ totals_in self.now.sums station }
     {
-        let from = station * STATION_SUMS;
-        &self.sums[from..from + STATION_SUMS]
+        &self.sums[station]
     }
 
     // The first capacity of a station: 0 where it has none, or there is no such station.
+    // Stays: 0 for none, since a sheet's capacities are words of any value.
     #[tactic(auto, unfolding(crate::specs::Sheet::capacity_at))]
     fn first_capacity(&self, station: u8) -> u16
         ensures { result ≡ capacity_at self.now station 0 }
     {
-        let at = usize::from(station) * COMPONENTS;
-        self.capacities.get(at).copied().unwrap_or(0)
-    }
-
-    // The capacities of a station.
-    fn station_capacities(&self, station: usize) -> Capacities
-        requires { station < station_count }
-        ensures { result ≡ capacities_at self.now station }
-    {
-        let at = station * COMPONENTS;
-        Capacities {
-            n: self.capacities[at],
-            y: self.capacities[at + 1],
-            z: self.capacities[at + 2],
-        }
+        let held = self.capacities.get(usize::from(station)).copied();
+        held.unwrap_or(NO_CAPACITIES).n
     }
 
     // Tag 06.
+    #[tactic(auto, using(crate::proofs::Stations::looks_at_station))]
     pub fn extremes(&self, station: u8, component: u8) -> Result<Answer, Refusal>
         requires { InRange self.now }
         ensures { (as_answer result ≡ unless_due (due_extremes station component) (Answer.Extremes (extremes_at self.now station component))) × ExtremesPromised self.now station component (as_answer result) }
     {
-        refusals::check_extremes(station, component)?;
+        let component = refusals::check_extremes(station, component)?;
         let t = usize::from(station);
         let extremes = station::extremes_of(
             self.settings,
             &self.kinds,
             self.station_effects(t),
             self.station_sums(t),
-            usize::from(component),
+            component,
         );
         Ok(Answer::Extremes(extremes))
     }
 
     // Tag 07.
+    // Stays: beside `extremes`, as each has its own refusals, look and promise.
+    #[tactic(auto, using(crate::proofs::Stations::looks_at_capacities))]
     pub fn utilisation(&self, station: u8) -> Result<Answer, Refusal>
         requires { InRange self.now }
         ensures { (as_answer result ≡ unless_due (due_utilisation self.now station) (Answer.Utilisation (utilisation_at self.now station))) × UtilisationPromised self.now station (as_answer result) }
@@ -266,7 +244,7 @@ impl Sheet {
             &self.kinds,
             self.station_effects(t),
             self.station_sums(t),
-            self.station_capacities(t),
+            self.capacities[t],
         );
         Ok(Answer::Utilisation(utilised))
     }
@@ -284,6 +262,7 @@ impl Sheet {
     }
 
     // Tag 01.
+    // Stays: each field by value too, here and below, a rule of the project (docs/DECISIONS.md).
     pub fn restart(self, method: u8, live: u8, zone: u8) -> Answered
         ensures { result ≡ edited (unless_refused (due_settings method live zone) self (fresh (settings_of method live zone))) }
     {
@@ -292,18 +271,17 @@ impl Sheet {
 
     // Tag 02.
     pub fn fill(self, case: u8, kind: u8) -> Answered
-        requires { InRange self }
-        ensures { result ≡ edited (unless_refused (due_fill self case kind) self (with_kind self case kind)) }
+        ensures { InRange self → result ≡ edited (unless_refused (due_fill self case kind) self (with_kind self case kind)) }
     {
         self.after(|s| s.fill_in(case, kind))
     }
 
     // Tag 03.
-    pub fn replace_effects(self, case: u8, station: u8, n: u16, y: u16, z: u16) -> Answered
+    pub fn replace_effects(self, case: u8, station: u8, words: EffectWords) -> Answered
         requires { InRange self }
-        ensures { result ≡ edited (unless_refused (due_effects self case station n y z) self (with_effects self case station (signed16 n) (signed16 y) (signed16 z))) }
+        ensures { result ≡ edited (unless_refused (due_effects self case station words.n words.y words.z) self (with_effects self case station (signed16 words.n) (signed16 words.y) (signed16 words.z))) }
     {
-        self.after(|s| s.replace_effects_in(case, station, n, y, z))
+        self.after(|s| s.replace_effects_in(case, station, words))
     }
 
     // Tag 04.
@@ -315,10 +293,10 @@ impl Sheet {
     }
 
     // Tag 05.
-    pub fn replace_capacities(self, station: u8, n: u16, y: u16, z: u16) -> Answered
-        ensures { result ≡ edited (unless_refused (due_capacities station n y z) self (with_capacities self station n y z)) }
+    pub fn replace_capacities(self, station: u8, capacities: Capacities) -> Answered
+        ensures { result ≡ edited (unless_refused (due_capacities station capacities.n capacities.y capacities.z) self (with_capacities self station capacities.n capacities.y capacities.z)) }
     {
-        self.after(|s| s.replace_capacities_in(station, n, y, z))
+        self.after(|s| s.replace_capacities_in(station, capacities))
     }
 
     // Tag 08.

@@ -12,7 +12,7 @@ pub const ROWS: usize = 44;
 pub const CASES: usize = 32;
 
 // The kinds by their numbers.
-#[derive(Clone, Copy)]
+#[derive(Clone, Copy, PartialEq, Eq, Debug)]
 pub enum Kind {
     Dead = 1,
     Fluid = 2,
@@ -31,7 +31,8 @@ pub enum Kind {
 }
 
 // What a sheet sets for all its combinations. In this order it takes eight bytes, which are copied faster than six.
-#[derive(Clone, Copy)]
+// Stays: bytes and no enums, since `save` asks nothing of a sheet, so that it saves settings that are out of range too.
+#[derive(Clone, Copy, PartialEq, Eq, Debug)]
 pub struct Settings {
     pub method: u8,
     pub live: u8,
@@ -42,6 +43,7 @@ pub struct Settings {
 }
 
 impl Settings {
+    // Stays: three bytes, as the body of tag 01 has them.
     pub fn of(method: u8, live: u8, zone: u8) -> Settings
         ensures { result ≡ settings_of method live zone }
     {
@@ -55,6 +57,7 @@ impl Settings {
     }
 
     // The same with the ice rows switched on, at 1, or off.
+    // Stays: this and `strained` in place of a store, since the definitions of these names give the settings after tags 08 and 09.
     pub fn switched(self, ice: u8) -> Settings
         ensures { result ≡ switched ice self }
     {
@@ -81,6 +84,7 @@ impl Settings {
 }
 
 // Those of a fresh sheet.
+// Stays: no `Default`, which would be a second name for this one, by which callers outside the repository make a sheet.
 pub fn fresh_settings() -> Settings
     ensures { result ≡ fresh_settings }
 {
@@ -88,7 +92,8 @@ pub fn fresh_settings() -> Settings
 }
 
 // How the cases of a kind may act: all of them, all together or none, any subset, at most one of a group of kinds.
-#[derive(Clone, Copy)]
+// Stays: found by a match on the number of a kind, which is a byte of a sheet and may be no kind; a rule of the project.
+#[derive(Clone, Copy, PartialEq, Eq, Debug)]
 pub enum Class {
     Always,
     Together,
@@ -98,7 +103,8 @@ pub enum Class {
 }
 
 // A station's capacities.
-#[derive(Clone, Copy)]
+// Stays: their range is a clause and no fact here, since `save` takes a sheet with any capacities.
+#[derive(Clone, Copy, PartialEq, Eq, Debug)]
 pub struct Capacities {
     pub n: u16,
     pub y: u16,

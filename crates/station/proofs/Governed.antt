@@ -1,6 +1,6 @@
 -- A station in range, the row that governs effects in range, and what the sums of one pass tell of the extremes of a component and of
 -- the utilisation.
-use Prim.Native.Nat.{ℕ, ◌+◌, ◌*◌, ◌<◌, ◌≤◌, ◌^◌}
+use Prim.Native.Nat.{ℕ, ◌<◌, ◌≤◌, ◌^◌}
 use native.Mathlib.Omega.{arith}
 use mathlib.Core.Bool.{Bool}
 use mathlib.Core.List.{List}
@@ -16,21 +16,28 @@ use Rattle.standard.specs.Rows.{row_count}
 use Rattle.standard.specs.Combination.{case_count}
 use Rattle.optimum.specs.Row.{acts_together}
 use Rattle.envelope.specs.declared.Best.{Best}
+use Rattle.envelope.specs.declared.component.Component.{Component}
 use Rattle.envelope.specs.declared.Peak.{Peak}
+use Rattle.envelope.specs.declared.Sign.{Sign}
 use Rattle.envelope.specs.declared.Sign.TheVariants.{Plus, Minus}
+use Rattle.envelope.specs.declared.StationSums.{StationSums}
 use Rattle.envelope.specs.declared.Weights.{Weights}
-use Rattle.envelope.specs.Range.{kind_of, effect_of, effect_most, StationInRange, EffectsInRange, WeightsInRange, CapacitiesInRange}
+use Rattle.envelope.specs.Range.{kind_of, effect_of, total_at, effect_most, StationInRange, EffectsInRange, WeightsInRange, CapacitiesInRange}
+use Rattle.envelope.specs.Components.{number_of_component}
 use Rattle.envelope.specs.Places.{Places}
-use Rattle.envelope.specs.Envelope.{governing_of, weighed, pattern_of, pattern_best, peak_of}
+use Rattle.envelope.specs.Envelope.{best_of, governing_of, weighed, pattern_of, pattern_best, peak_of}
+use Rattle.envelope.specs.Signs.{signed}
+use Rattle.envelope.proofs.Components.{component_below}
 use Rattle.envelope.proofs.Limits.{row_below, value_fits, weighed_most}
 use Rattle.envelope.proofs.Patterns.{pattern_in_range}
+use Rattle.envelope.proofs.Rows.{best_some}
 use Rattle.envelope.proofs.Utilisation.{peak_own, peak_inside}
 use Rattle.sums.specs.Sums.{TotalsHeld, fluid_acts}
-use Rattle.governing.specs.Ways.{toward_of}
-use Rattle.passes.specs.Passes.{ServesBoth, ServesPatterns, ComponentPass}
+use Rattle.directions.specs.Four.{fluid_in}
+use Rattle.governing.specs.Ways.{toward_of, eight_of}
+use Rattle.passes.specs.Passes.{ServesPatterns, ComponentPass, PatternPass}
 use Rattle.passes.proofs.Served.{peak_served, fluid_served}
-use Rattle.station.specs.declared.Found.{Found}
-use Rattle.station.specs.Peaks.{PeakOf}
+use Rattle.station.specs.Passed.{Passed}
 
 -- ---- the cases of a station
 module _ {kinds : List ℕ} {effects : List ℤ} (r : StationInRange kinds effects) where
@@ -54,73 +61,71 @@ governs : (s : Settings) (kind : ℕ → ℕ) (x : ℕ → ℤ) (best : Best) �
 governs s kind x best range small is =
     subst (Governs s kind x) (sym is) (record { is = λ _. governing_of s kind x; row = row_below s kind x; fits = value_fits s kind x range small })
 
--- ---- the extremes of a component
-module _ {s : Settings} {kinds : List ℕ} {effects totals : List ℤ} {component : ℕ}
-    (needs : StationInRange kinds effects × TotalsHeld totals kinds effects × (component < 3) × SettingsInRange s)
-    {places : List ℕ} (placed : Places places (kind_of kinds))
-    {held : ℕ → ℕ → ℕ} (pass : ComponentPass held (λ j. effect_of totals j component) places (λ k. effect_of effects k component)) where
-  abbrev kind : ℕ → ℕ
-  kind = kind_of kinds
+-- the best row is one of the table, by whatever values
+pub best_row : (s : Settings) (v : ℕ → ℤ) {best : Best} → best ≡ best_of s v → best.row < row_count
+best_row s v is = subst (λ (b : Best). b.row < row_count) (sym is) (best_some s v).0
 
-  abbrev effect : ℕ → ℤ
-  effect k = effect_of effects k component
-
-  abbrev opposed : ℕ → ℤ
-  opposed k = neg_ℤ (effect k)
-
-  -- the sums of the pass serve both
-  pub served : ServesBoth held kind effect
-  served = pass.serves kind (below needs.0) placed (needs.1.are.on component needs.2)
-
-  small : (k : ℕ) → nat_abs (effect k) ≤ effect_most
-  small k = omega (arith, needs.0.effects_range (k * 3 + component))
-
-  pub most_governs : {best : Best} → best ≡ toward_of s held Plus → Governs s kind effect best
-  most_governs {best = best} e = governs s kind effect best needs.3 small (e ∙ (served.governs s).as_is)
-
-  pub least_governs : {best : Best} → best ≡ toward_of s held Minus → Governs s kind opposed best
-  least_governs {best = best} e =
-      governs s kind opposed best needs.3 (λ k. omega (arith, abs_negated (effect k), small k)) (e ∙ (served.governs s).turned)
+-- ---- the effects with a sign
+module _ {s : Settings} (range : SettingsInRange s) {places : List ℕ} {held : ℕ → ℕ → ℕ} {e : ℕ → ℤ} (q : Passed places held e)
+    (small : (k : ℕ) → nat_abs (e k) ≤ effect_most) where
+  pub sign_governs : (sign : Sign) {best : Best} → best ≡ toward_of s held sign → Governs s q.kind (λ k. signed sign (e k)) best
+  sign_governs Plus {best} is = governs s q.kind e best range small (is ∙ (q.serve.governs s).as_is)
+  sign_governs Minus {best} is =
+      governs s q.kind (λ k. neg_ℤ (e k)) best range (λ k. omega (arith, abs_negated (e k), small k)) (is ∙ (q.serve.governs s).turned)
 
   -- whether the F cases act
-  pub raised_acts : {acts : Bool} → acts ≡ fluid_acts held Plus → acts ≡ acts_together kind effect fluid
-  raised_acts e = e ∙ served.tells_fluid.as_is
+  pub sign_acts : (sign : Sign) {acts : Bool} → acts ≡ fluid_acts held sign → acts ≡ acts_together q.kind (λ k. signed sign (e k)) fluid
+  sign_acts Plus is = is ∙ q.serve.tells_fluid.as_is
+  sign_acts Minus is = is ∙ q.serve.tells_fluid.turned
 
-  pub lowered_acts : {acts : Bool} → acts ≡ fluid_acts held Minus → acts ≡ acts_together kind opposed fluid
-  lowered_acts e = e ∙ served.tells_fluid.turned
+-- the sums of a component's pass
+abbrev pub passed : {s : Settings} {kinds : List ℕ} {effects : List ℤ} {totals : StationSums} (component : Component) →
+    StationInRange kinds effects × TotalsHeld totals kinds effects × SettingsInRange s →
+    {places : List ℕ} → Places places (kind_of kinds) →
+    {held : ℕ → ℕ → ℕ} → ComponentPass held (λ j. total_at totals j (number_of_component component)) places (λ k. effect_of effects k (number_of_component component)) →
+    Passed places held (λ k. effect_of effects k (number_of_component component))
+passed {kinds = kinds} component needs placed pass =
+    record {
+      kind = kind_of kinds;
+      below = below needs.0;
+      are = placed;
+      serve = pass.serves (kind_of kinds) (below needs.0) placed (needs.1.are.on (number_of_component component) (component_below component));
+    }
 
 -- ---- the utilisation
-module _ {s : Settings} {kinds : List ℕ} {effects totals : List ℤ} {p : Capacities}
+module _ {s : Settings} {kinds : List ℕ} {effects : List ℤ} {totals : StationSums} {p : Capacities}
     (needs : StationInRange kinds effects × TotalsHeld totals kinds effects × CapacitiesInRange p × SettingsInRange s)
-    {places : List ℕ} (placed : Places places (kind_of kinds)) {found : Found} (peak : PeakOf found s (effect_of totals) places (effect_of effects) p) where
+    {places : List ℕ} (placed : Places places (kind_of kinds))
+    {held : ℕ → ℕ → ℕ → ℕ} (pass : PatternPass held (total_at totals) places (effect_of effects) p) where
   abbrev bests : ℕ → Best
   bests = pattern_best s (kind_of kinds) (effect_of effects) p
 
   -- the sums of the pass serve the eight patterns
-  pub patterns : ServesPatterns peak.held (kind_of kinds) (effect_of effects) p
-  patterns = peak.pass.serves (kind_of kinds) (below needs.0) placed needs.1.are
+  pub patterns : ServesPatterns held (kind_of kinds) (effect_of effects) p
+  patterns = pass.serves (kind_of kinds) (below needs.0) placed needs.1.are
 
-  -- the pattern that governs, one of the eight
-  pub peak_is : found.peak ≡ peak_of bests 7
-  peak_is = peak.peak ∙ peak_served peak.held (kind_of kinds) (effect_of effects) p patterns s
+  module _ {peak : Peak} (highest : peak ≡ peak_of (eight_of s held) 7) where
+    -- the pattern that governs, one of the eight
+    pub peak_is : peak ≡ peak_of bests 7
+    peak_is = highest ∙ peak_served held (kind_of kinds) (effect_of effects) p patterns s
 
-  pattern_below : found.peak.pattern ≤ 7
-  pattern_below = subst (λ (q : Peak). q.pattern ≤ 7) (sym peak_is) (peak_inside bests 7)
+    pub pattern_below : peak.pattern ≤ 7
+    pattern_below = subst (λ (q : Peak). q.pattern ≤ 7) (sym peak_is) (peak_inside bests 7)
 
-  module _ {w : Weights} (weights : w ≡ pattern_of p found.peak.pattern) where
-    pub weights_in_range : WeightsInRange w
-    weights_in_range = subst WeightsInRange (sym weights) (pattern_in_range p found.peak.pattern needs.2)
+    module _ {w : Weights} (weights : w ≡ pattern_of p peak.pattern) where
+      pub weights_in_range : WeightsInRange w
+      weights_in_range = subst WeightsInRange (sym weights) (pattern_in_range p peak.pattern needs.2)
 
-    -- its row governs the effects weighed by it
-    pub peak_governs : Governs s (kind_of kinds) (weighed w (effect_of effects)) found.peak.best
-    peak_governs =
-        governs s (kind_of kinds) (weighed w (effect_of effects)) found.peak.best needs.3
-        (weighed_most effects w (effects_in_range needs.0) weights_in_range)
-        (ap (λ (q : Peak). q.best) peak_is ∙ peak_own bests 7 ∙ ap (λ (q : Peak). bests q.pattern) (sym peak_is)
-        ∙ ap (λ (v : Weights). governing_of s (kind_of kinds) (weighed v (effect_of effects))) (sym weights))
+      -- its row governs the effects weighed by it
+      pub peak_governs : Governs s (kind_of kinds) (weighed w (effect_of effects)) peak.best
+      peak_governs =
+          governs s (kind_of kinds) (weighed w (effect_of effects)) peak.best needs.3
+          (weighed_most effects w (effects_in_range needs.0) weights_in_range)
+          (ap (λ (q : Peak). q.best) peak_is ∙ peak_own bests 7 ∙ ap (λ (q : Peak). bests q.pattern) (sym peak_is)
+          ∙ ap (λ (v : Weights). governing_of s (kind_of kinds) (weighed v (effect_of effects))) (sym weights))
 
-    -- whether the F cases act
-    pub peak_acts : found.fluid ≡ acts_together (kind_of kinds) (weighed w (effect_of effects)) fluid
-    peak_acts =
-        peak.fluid ∙ fluid_served peak.held (kind_of kinds) (effect_of effects) p patterns found.peak.pattern pattern_below
-        ∙ ap (λ (v : Weights). acts_together (kind_of kinds) (weighed v (effect_of effects)) fluid) (sym weights)
+      -- whether the F cases act
+      pub peak_acts : {acts : Bool} → acts ≡ fluid_in held peak.pattern → acts ≡ acts_together (kind_of kinds) (weighed w (effect_of effects)) fluid
+      peak_acts is =
+          is ∙ fluid_served held (kind_of kinds) (effect_of effects) p patterns peak.pattern pattern_below
+          ∙ ap (λ (v : Weights). acts_together (kind_of kinds) (weighed v (effect_of effects)) fluid) (sym weights)

@@ -1,2 +1,2 @@
-pub mod Peaks
+pub mod Passed
 pub mod Promises

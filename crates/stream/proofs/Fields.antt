@@ -73,21 +73,20 @@ progressed_join fs gs {p} {q} {r} {s₀} {o₀ = o₀} x y =
     }
 
 pub progressed_one : (p : Progress) (s : Sheet) (input o : List ℕ) → p.written + answer_room ≤ length o →
-    {r : Outcome} {s' : Sheet} {part : List ℕ} {last : Bool} →
+    {r : Outcome} {s' : Sheet} {part : List ℕ} {stop : Bool} →
     FieldRead (take (length input - p.consumed) (drop p.consumed input)) (take (length o - p.written) (drop p.written o)) s (with_sheet r s') part →
-    last ≡ last_of r.answer →
-    Progressed (drop p.consumed input ∷ []) p s o (record { consumed = p.consumed + r.consumed; written = p.written + r.written; stop = p.stop || last }) s'
+    stop ≡ (p.stop || last_of r.answer) →
+    Progressed (drop p.consumed input ∷ []) p s o (record { consumed = p.consumed + r.consumed; written = p.written + r.written; stop = stop }) s'
     (put_mid p.written (length o - p.written) o part)
 unfolding sheet_after span_of answers_to bytes_of any_last
 progressed_one p s input o h f l =
     let field = drop p.consumed input in
     let x = read_at input o p.consumed p.written s h f in
     let b = append-nil (answer_bytes (read_field field answer_room s).answer) in
-    let e = l ∙ ap last_of x.answer in
     record {
       sheet = x.sheet;
       consumed = rw (x.consumed, add-zero);
       written = rw (x.written, b);
       output = rw b x.output;
-      stop = rw (e, or_false);
+      stop = l ∙ rw (x.answer, or_false);
     }

@@ -64,12 +64,12 @@ module _ {ended : Bool} {input : List ℕ} {s₀ : Sheet} {o₀ : List ℕ} {p :
         let x = and_parts (not p.stop) (is_next ended (length o - p.written) f) (sym test ∙ e) in
         (not_true p.stop x.0, rw h.within.same at x.1)
 
-    pub going_room : Within s p.consumed p.written input o o × (p.written + answer_room ≤ length o)
+    pub going_room : Within s p.consumed p.written input o o × (p.written + answer_room ≤ length o) × (p.stop ≡ false)
     going_room =
         let w = h.within in
         let g = (next_parts ended room f parts.1).1 in
         let e' = w.same in
-        (record { in_range = w.in_range; consumed = w.consumed; written = omega (arith, w.written); room = omega (arith, w.room); same = refl }, omega (arith, w.written))
+        (record { in_range = w.in_range; consumed = w.consumed; written = omega (arith, w.written); room = omega (arith, w.room); same = refl }, omega (arith, w.written), parts.0)
 
     before_end : p.consumed < length input
     before_end =

@@ -6,11 +6,27 @@ use native.Mathlib.Omega.{arith}
 use mathlib.Core.List.{List, [], ◌∷◌}
 use mathlib.Core.Path.{◌≡◌, refl, sym, ap, ◌∙◌, subst}
 use lib.ListN.{length, get_or, set, replicate}
+use Rattle.std.proofs.Math.Logic.{⊎_elim}
+use Rattle.std.proofs.lemmas.Bool.{cases_eq}
 use lib.Seq.{get_or-set_same, get_or-set_other}
+use denote.Param.Members.{Mut}
+use Rattle.std.specs.Array.{IsFromFnResultFrom}
+use Rattle.std.specs.Fn.{Called}
 use Rattle.sums.specs.declared.Sides.{Sides}
 use Rattle.sums.specs.declared.by_kind.Sums.{Sums}
 use Rattle.sums.specs.Sums.{nothing, held_at, KindPut}
 use Rattle.sums.specs.Directions.{held_in}
+
+-- what a closure says of each number and what it makes of it, where a call leaves the closure as it is
+pub filled : {F B : Type 0} (g : Mut F (ℕ × Unit {0}) B) (f : F) (Q : ℕ → B → Type 0) → ((i : ℕ) (y : B) (q : F) → Called g f (i, tt) y q → (q ≡ f) × Q i y) →
+    (ys : List B) (i n : ℕ) → IsFromFnResultFrom g f ys i n → (k : ℕ) (e : B) → i ≤ k → k < i + n → Q k (get_or ys k e)
+filled g f Q says ys i zero m k e h l = absurd (omega arith)
+filled g f Q says ys i (suc n) m k e h l =
+    let call = says i m.1 m.0 m.3 in
+    ⊎_elim
+    (λ (p : k ≡ i). rw (p, m.2.1 e) call.1)
+    (λ (p : k ≡ i → ⊥). filled g f Q says ys (i + 1) n (subst (λ (q : _). IsFromFnResultFrom g q ys (i + 1) n) call.0 m.4) k e (omega arith) (omega arith))
+    (cases_eq k i)
 
 -- one place more
 pub filled_more : {A : Type 0} (xs : List A) (d : ℕ) (r z : A) (F : ℕ → A) → d < length xs → r ≡ F d → ((i : ℕ) → i < d → get_or xs i z ≡ F i) →

@@ -1,17 +1,18 @@
 -- The total of the cases of a kind is linear in their effects, and in range.
 -- Assumes nothing.
-use Prim.Native.Nat.{ℕ, suc, ◌+◌, ◌*◌, ◌/◌, ◌%◌, ◌<◌, ◌≤◌}
+use Prim.Native.Nat.{ℕ, zero, suc, ◌+◌, ◌*◌, ◌<◌, ◌≤◌}
 use native.Mathlib.Omega.{arith}
 use mathlib.Core.List.{List}
 use mathlib.Core.Path.{◌≡◌, sym, ap, ◌∙◌}
 use lib.Dec.{eqb}
 use lib.IntN.{ℤ, pos, negsuc, neg_ℤ, ◌+ℤ◌, ◌*ℤ◌, nat_abs}
-use lib.ListN.{get_or, get_or-eq_default}
+use lib.ListN.{length, get_or, get_or-eq_default}
 use Rattle.integers.proofs.Linear.{minus_one, where_adds, where_scales, where_most}
 use Rattle.integers.proofs.Sums.{ltb_cases}
 use Rattle.standard.specs.Combination.{case_count}
 use Rattle.optimum.specs.Row.{total_of}
-use Rattle.envelope.specs.Range.{kind_of, effect_of, component_count, effect_limit, total_most, EffectsInRange, TotalsInRange}
+use Rattle.envelope.specs.declared.StationSums.{StationSums}
+use Rattle.envelope.specs.Range.{kind_of, effect_of, total_at, component_count, effect_limit, total_most, EffectsInRange, TotalsInRange}
 use Rattle.sums.specs.Sums.{total_count, TotalsHeld}
 
 module _ (kind : ℕ → ℕ) (j : ℕ) where
@@ -32,17 +33,16 @@ total_size : (kind : ℕ → ℕ) (e : ℕ → ℤ) (j : ℕ) → ((k : ℕ) →
 unfolding total_of
 total_size kind e j small = where_most case_count (λ k. eqb (kind k) j) effect_limit e (λ k _. small k)
 
-pub held_in_range : (totals : List ℤ) (kinds : List ℕ) (effects : List ℤ) → TotalsHeld totals kinds effects → EffectsInRange effects → TotalsInRange totals
-held_in_range totals kinds effects h r = record { long = h.long; range = λ i. ltb_cases i 6 (λ _. nat_abs (get_or totals i (pos 0)) ≤ total_most) (inside i) (past i) }
+pub held_in_range : (totals : StationSums) (kinds : List ℕ) (effects : List ℤ) → TotalsHeld totals kinds effects → EffectsInRange effects → TotalsInRange totals
+held_in_range totals kinds effects h r = record { range = range }
   where
-    inside : (i : ℕ) → i < 6 → nat_abs (get_or totals i (pos 0)) ≤ total_most
-    inside i l =
-        let at : i / 3 * 3 + i % 3 ≡ i = omega arith in
-        let j : i / 3 < total_count = omega arith in
-        let c : i % 3 < component_count = omega arith in
-        let e : get_or totals i (pos 0) ≡ total_of (kind_of kinds) (λ k. effect_of effects k (i % 3)) (suc (i / 3)) =
-        ap (λ (n : ℕ). get_or totals n (pos 0)) (sym at) ∙ (h.are.on (i % 3) c).each (i / 3) j in
-        rw e (total_size (kind_of kinds) (λ k. effect_of effects k (i % 3)) (suc (i / 3)) (λ k. r.range (k * 3 + i % 3)))
+    inside : (which j : ℕ) → which < total_count → j < component_count → nat_abs (total_at totals which j) ≤ total_most
+    inside which j w l = rw ((h.are.on j l).each which w) (total_size (kind_of kinds) (λ k. effect_of effects k j) (suc which) (λ k. r.range (k * 3 + j)))
 
-    past : (i : ℕ) → 6 ≤ i → nat_abs (get_or totals i (pos 0)) ≤ total_most
-    past i l = let e : get_or totals i (pos 0) ≡ pos 0 = get_or-eq_default totals (pos 0) (omega (arith, h.long)) in rw e (omega arith)
+    past : (sums : List ℤ) (j : ℕ) → length sums ≡ component_count → component_count ≤ j → nat_abs (get_or sums j (pos 0)) ≤ total_most
+    past sums j long l = let e : get_or sums j (pos 0) ≡ pos 0 = get_or-eq_default sums (pos 0) (omega (arith, long)) in rw e (omega arith)
+
+    range : (which j : ℕ) → nat_abs (total_at totals which j) ≤ total_most
+    range zero j = ltb_cases j 3 (λ _. nat_abs (get_or totals.dead j (pos 0)) ≤ total_most) (inside 0 j (omega arith)) (past totals.dead j h.dead_long)
+    range (suc zero) j = ltb_cases j 3 (λ _. nat_abs (get_or totals.fluid j (pos 0)) ≤ total_most) (inside 1 j (omega arith)) (past totals.fluid j h.fluid_long)
+    range (suc (suc which)) j = omega arith

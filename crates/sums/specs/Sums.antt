@@ -9,7 +9,8 @@ use Rattle.standard.specs.Kinds.{class_of, kind_count, fluid}
 use Rattle.standard.specs.Combination.{case_count}
 use Rattle.optimum.specs.Row.{total_of}
 use Rattle.envelope.specs.declared.Sign.{Sign}
-use Rattle.envelope.specs.Range.{kind_of, effect_of, component_count, effect_most}
+use Rattle.envelope.specs.declared.StationSums.{StationSums}
+use Rattle.envelope.specs.Range.{kind_of, effect_of, total_at, component_count, effect_most}
 use Rattle.envelope.specs.Signs.{over, under}
 use Rattle.sums.specs.declared.Sides.{Sides}
 
@@ -125,10 +126,11 @@ pub record TotalsOf (totals : ℕ → ℤ) (kind : ℕ → ℕ) (e : ℕ → ℤ
 pub record AllTotalsOf (totals : ℕ → ℕ → ℤ) (kind : ℕ → ℕ) (effect : ℕ → ℕ → ℤ) : Type 0 where
   pub on : (c : ℕ) → c < component_count → TotalsOf (λ j. totals j c) kind (λ k. effect k c)
 
--- the totals of a station as they are held: three of D, then three of F
-pub record TotalsHeld (totals : List ℤ) (kinds : List ℕ) (effects : List ℤ) : Type 0 where
-  pub long : length totals ≡ total_count * component_count
-  pub are : AllTotalsOf (effect_of totals) (kind_of kinds) (effect_of effects)
+-- the totals of a station as they are held
+pub record TotalsHeld (totals : StationSums) (kinds : List ℕ) (effects : List ℤ) : Type 0 where
+  pub dead_long : length totals.dead ≡ component_count
+  pub fluid_long : length totals.fluid ≡ component_count
+  pub are : AllTotalsOf (total_at totals) (kind_of kinds) (effect_of effects)
 
 -- the totals of D and F, each in some directions: of the one at j in direction d
 abbrev pub total_in : List (List ℤ) → ℕ → ℕ → ℤ

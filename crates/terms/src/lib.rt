@@ -14,7 +14,7 @@ use sums::Sums;
 
 // What the factors of a row multiply: the cases of D, of F where their total is above zero, of Hp and Hv, of Hp at the low
 // factor, of L, of T, then the greatest of Lr and R, of S, of W, of E, of Fa, of Di and of Wi.
-#[derive(Clone, Copy)]
+#[derive(Clone, Copy, PartialEq, Eq, Debug)]
 pub struct Terms {
     pub dead: i64,
     pub fluid: i64,
@@ -35,23 +35,22 @@ pub struct Terms {
 pub fn terms_of(sums: &Sums, sign: Sign) -> Terms
     ensures { result ≡ terms_of (held_at sums.now.by_kind) sign }
 {
-    let over = sign.over();
     Terms {
         dead: sums.excess(Kind::Dead, sign),
         fluid: sums.excess(Kind::Fluid, sign).max(0),
-        earth: sums.held(Kind::EarthPermanent, over) + sums.held(Kind::EarthOther, over),
-        lowered: -sums.held(Kind::EarthPermanent, sign.under()),
-        live: sums.held(Kind::Live, over),
-        straining: sums.held(Kind::SelfStraining, over),
+        earth: sums.held(Kind::EarthPermanent, sign) + sums.held(Kind::EarthOther, sign),
+        lowered: -sums.held(Kind::EarthPermanent, sign.opposite()),
+        live: sums.held(Kind::Live, sign),
+        straining: sums.held(Kind::SelfStraining, sign),
         roof: sums
-            .held(Kind::RoofLive, over)
-            .max(sums.held(Kind::Rain, over)),
-        snow: sums.held(Kind::Snow, over),
-        wind: sums.held(Kind::Wind, over),
-        quake: sums.held(Kind::Earthquake, over),
-        flood: sums.held(Kind::Flood, over),
-        ice: sums.held(Kind::Ice, over),
-        icewind: sums.held(Kind::WindOnIce, over),
+            .held(Kind::RoofLive, sign)
+            .max(sums.held(Kind::Rain, sign)),
+        snow: sums.held(Kind::Snow, sign),
+        wind: sums.held(Kind::Wind, sign),
+        quake: sums.held(Kind::Earthquake, sign),
+        flood: sums.held(Kind::Flood, sign),
+        ice: sums.held(Kind::Ice, sign),
+        icewind: sums.held(Kind::WindOnIce, sign),
     }
 }
 
@@ -68,7 +67,7 @@ fn with_term(total: i64, factor: u16, x: i64) -> i64
 #[derive(Clone, Copy)]
 pub struct Row {
     pub settings: Settings,
-    pub number: usize,
+    pub number: u8,
     pub ghost in_range: { SettingsInRange settings },
     pub ghost in_table: { number < row_count },
 }

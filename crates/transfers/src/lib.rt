@@ -46,22 +46,16 @@ fn retried(
     Some(pause.longer())
 }
 
-// How many bytes were handed on, and how many of them are written: fewer where a write failed.
-#[derive(Clone, Copy, PartialEq, Eq, Debug)]
-pub struct Sent {
-    pub given: usize,
-    pub taken: usize,
-}
-
-// A proved loop ends, and no fact says that the writes do: they are counted to a number that no run reaches.
-pub fn write_all(rt: &(impl Eprint + Clock), stdout: &mut impl io::Write, bytes: &[u8]) -> Sent
-    ensures { (result.given ≡ length bytes.now) × (result.taken ≤ length bytes.now) }
+// How many of the bytes are written: fewer where a write failed.
+// Stays: writes counted to a number that no run reaches, since no fact says that they end and `forever` needs the word Wait, which HANDLES
+// does not give.
+pub fn write_all(rt: &(impl Eprint + Clock), stdout: &mut impl io::Write, bytes: &[u8]) -> usize
+    ensures { result ≤ length bytes.now }
 {
-    let given = bytes.len();
     let mut taken = 0;
     let mut pause = Pause::first();
     for _ in 0..u64::MAX {
-        if taken == given {
+        if taken == bytes.len() {
             break;
         }
         match stdout.write(&bytes[taken..]) {
@@ -77,7 +71,7 @@ pub fn write_all(rt: &(impl Eprint + Clock), stdout: &mut impl io::Write, bytes:
             }
         }
     }
-    Sent { given, taken }
+    taken
 }
 
 /// What may follow the bytes that are at hand.
@@ -103,6 +97,7 @@ impl Source {
 }
 
 // How many bytes of input are at hand, what may follow them, and the pause where the next read cannot go on.
+// Stays: the pause beside the source, since a turn hands it on whatever follows.
 #[derive(Clone, Copy, PartialEq, Eq, Debug)]
 pub struct Read {
     pub count: usize,
@@ -111,6 +106,7 @@ pub struct Read {
 }
 
 // Reads more bytes after those held. `call` names the read on standard error, where it fails.
+// Stays: positions beside the buffer, here and below, since each turn is lent the buffer and promises what it holds afterwards.
 pub fn read_more(
     rt: &(impl Eprint + Clock),
     call: &str,

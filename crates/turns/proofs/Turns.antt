@@ -8,7 +8,7 @@ use mathlib.Core.Bool.{Bool, true, false, not, ◌&&◌}
 use native.Mathlib.Omega.{arith}
 use lib.ListN.{length, take, drop, take-append-drop}
 use lib.Dec.{eqb}
-use lib.Seq.{slice, length-slice, length-sets, length-take-le, take_at, take-take}
+use lib.Seq.{slice, length-slice, length-sets, take_at, take-take}
 use Rattle.wire.specs.Bytes.{over}
 use Rattle.wire.proofs.Stores.{front}
 use Rattle.sheet.specs.declared.Sheet.{Sheet}
@@ -40,37 +40,32 @@ moved_long from {count = count} {i₁ = i₁} h e =
     ap length (e ∙ sym (front w i₁ k)) ∙ (length-sets i₁ 0 w ∙ h.same)
 
 -- the front of an output that holds the bytes w from its start on
-handed_is : (w o : List ℕ) {o' : List ℕ} {written given : ℕ} → length w ≤ length o → o' ≡ over w o → length o' ≡ length o → written ≡ length w →
-    given ≡ length (take (written - 0) (drop 0 o')) → (take given o' ≡ w) × (given ≡ length w)
+handed_is : (w o : List ℕ) {o' : List ℕ} {written : ℕ} → o' ≡ over w o → written ≡ length w → take written o' ≡ w
 unfolding over
-handed_is w o {o'} {written} {given} l e k n g =
-    let z : written - 0 ≡ written = omega arith in
-    let m : given ≡ length w = (rw z at g) ∙ (length-take-le written o' (omega arith) ∙ n) in
-    (rw (m, e) (take_at w (drop (length w) o) (length w) refl), m)
+handed_is w o e n = rw (n, e) (take_at w (drop (length w) o) (length w) refl)
 
 ended_all : (ended : Bool) (w : List ℕ) (room : ℕ) (s : Sheet) → ended ≡ true → ready_of w ≡ false → answer_room ≤ room → answered_of ended room (fields_of w) s ≡ fields_of w
 ended_all ended w room s y e h = rw y (end_fields w room s e h)
 
-pub turned : (held : ℕ) (s : Sheet) (i o : List ℕ) (ended failed : Bool) {count given taken : ℕ} {p : Progress} {s' : Sheet} {i₁ i₂ o' : List ℕ} →
+pub turned : (held : ℕ) (s : Sheet) (i o : List ℕ) (ended failed : Bool) {count taken : ℕ} {p : Progress} {s' : Sheet} {i₁ i₂ o' : List ℕ} →
     answer_room ≤ length o → Filled held count ended failed i i₁ →
-    Progressed (answered_of ended (length o) (fields_of (take (count - 0) (drop 0 i₁))) s) begun s o p s' o' →
+    Progressed (answered_of ended (length o) (fields_of (take count i₁)) s) begun s o p s' o' →
     p.written ≤ length o →
-    (given ≡ length (take (p.written - 0) (drop 0 o'))) × (taken ≤ length (take (p.written - 0) (drop 0 o'))) →
+    taken ≤ length (take p.written o') →
     i₂ ≡ over (slice p.consumed count i₁) i₁ →
-    Turned (length o) s (take held i) (take given o') taken s' (take (count - p.consumed) i₂)
-    (((not ended && not failed) && eqb taken given) && not p.stop)
-turned held s i o ended failed {count} {given} {taken} {p} {s'} {i₁} {i₂} {o'} g h a r w m =
-    let z : count - 0 ≡ count = omega arith in
+    Turned (length o) s (take held i) (take p.written o') taken s' (take (count - p.consumed) i₂)
+    (((not ended && not failed) && eqb taken p.written) && not p.stop)
+turned held s i o ended failed {count} {taken} {p} {s'} {i₁} {i₂} {o'} g h a r w m =
     let e = at_hand h in
     let got = take held i ++ slice held count i₁ in
     let fs = answered_of ended (length o) (fields_of got) s in
     let b = bytes_of (answers_to fs s) in
-    let x : Progressed fs begun s o p s' o' = rw (z, e) at a in
+    let x : Progressed fs begun s o p s' o' = rw e at a in
     let c : p.consumed ≡ span_of fs = omega (arith, x.consumed) in
     let l : count ≤ length i₁ = omega (arith, h.most, h.same) in
     let n : p.written ≡ length b = omega (arith, x.written) in
     let k : length b ≤ length o = omega arith in
-    let q = handed_is b o k (x.output ∙ front b o k) (ap length x.output ∙ length-sets o 0 b) n w.0 in
+    let q = handed_is b o (x.output ∙ front b o k) n in
     record {
       new = slice held count i₁;
       ended = ended;
@@ -82,9 +77,9 @@ turned held s i o ended failed {count} {given} {taken} {p} {s'} {i₁} {i₂} {o
           let v : got ≡ take held i = sym e ∙ (ap (λ (j : ℕ). take j i₁) d.0 ∙ h.kept) in
           ended_all ended got (length o) s y (ap ready_of v ∙ d.1) g;
       sheet = x.sheet;
-      handed = q.0;
-      most = rw q.0 (omega (arith, q.1, w.0, w.1));
+      handed = q;
+      most = w;
       left = rw m (held_is i₁ p.consumed count l ∙ (ap (λ (j : ℕ). drop j (take count i₁)) c ∙ ap (drop (span_of fs)) e));
       unended = h.unended;
-      goes_on = rw (x.stop, q.0, q.1);
+      goes_on = rw (x.stop, q, n);
     }

@@ -2,18 +2,21 @@
 
 #![tactic(auto)]
 
-ghost use Rattle.std.specs.Prelude.{◌≡◌, ◌≤◌, length, take};
+ghost use Rattle.std.specs.Prelude.{◌≡◌, ◌≤◌, ◌&&◌, not, eqb, length, take};
 ghost use Rattle.sheet.specs.Range.{InRange};
 ghost use Rattle.pieces.specs.Turns.{Turned};
+ghost use Rattle.transfers.specs.Filled.{is_ended, is_failed};
 ghost use Rattle.answers.specs.Answers.{answer_room};
 
 use pauses::Pause;
 use sheet::Sheet;
 use std::io::{Read, Write};
 use std::time::Clock;
+use transfers::Source;
 
 // What the service keeps from turn to turn beside the sheet: how many bytes of input it holds, the pause where a read cannot go on, how many
 // bytes of output it handed on and how many of them were written, and whether it goes on.
+// Stays: a bool, since the counts hold whether or not a turn follows.
 #[derive(Drop)]
 pub struct Service {
     pub held: usize,
@@ -23,7 +26,16 @@ pub struct Service {
     pub more: bool,
 }
 
+// Whether a turn follows: more input may come, all answers are written, and none was the last.
+// Stays: `stop` as a bool, since it is a fact of the answers and selects no step.
+fn goes_on(source: Source, given: usize, taken: usize, stop: bool) -> bool
+    ensures { result ≡ (((not (is_ended source) && not (is_failed source)) && eqb taken given) && not stop) }
+{
+    source == Source::Open && taken == given && !stop
+}
+
 // One read at most, the answers to the fields that are then at hand, and one write of them.
+// Stays: clauses on the lengths, here, in `serve` and in `answer_all`, since buffers are lent as slices, whose type has none.
 pub fn turn(
     rt: &(impl Eprint + Clock),
     stdin: &mut impl Read,
@@ -38,18 +50,14 @@ pub fn turn(
     ensures in_range { InRange sheet.new × (result.held ≤ length input.old) × (length input.new ≡ length input.old) × (length output.new ≡ length output.old) }
 {
     let m = transfers::read_some(rt, stdin, input, s.held, s.pause);
-    let end = m.count;
-    let ended = m.source.is_ended();
-    let p = stream::answer_all(sheet, ended, &input[0..end], output);
-    let consumed = p.consumed;
-    let written = p.written;
-    let w = transfers::write_all(rt, stdout, &output[0..written]);
-    transfers::shift(input, consumed, end);
+    let p = stream::answer_all(sheet, m.source.is_ended(), &input[..m.count], output);
+    let taken = transfers::write_all(rt, stdout, &output[..p.written]);
+    transfers::shift(input, p.consumed, m.count);
     Service {
-        held: end - consumed,
+        held: m.count - p.consumed,
         pause: m.pause,
-        given: w.given,
-        taken: w.taken,
-        more: !ended & !m.source.is_failed() & (w.taken == w.given) & !p.stop,
+        given: p.written,
+        taken,
+        more: goes_on(m.source, p.written, taken, p.stop),
     }
 }

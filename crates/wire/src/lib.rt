@@ -1,11 +1,16 @@
-// Bytes and two-byte numbers in a slice.
+// Bytes and two-byte numbers in a slice, and a buffer for bytes.
 
 #![tactic(auto)]
 
 ghost use Rattle.std.specs.Prelude.{◌≡◌, ◌<◌};
 ghost use Rattle.wire.specs.Bytes.{byte_at, word_at};
 
+mod buffer;
+
+pub use buffer::Buffer;
+
 // The byte at a position, 0 past the end.
+// Stays: a position beside the slice, here and in `word`, since past the end 0 is read, and a bound on it for the sum `at + 1`.
 pub fn byte(s: &[u8], at: usize) -> u8
     ensures { result ≡ byte_at s.now at }
 {

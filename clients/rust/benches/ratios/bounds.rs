@@ -14,21 +14,21 @@ pub struct Counted {
 /// Counted is the finding of a name in a file of fields of several tags: what a field of the file takes.
 pub const NAME: &str = "name";
 
-/// The bounds are the counts of the library as it is; they are set here alone.
+/// The bounds are the counts of the library as it is, of a 03, 02 and 04 up to 5 more; they are set here alone.
 pub const LISTS: [Counted; 14] = [
     counted("03", 1, 8, 211),
     counted("03", 1, 32, 210),
     counted("02/04", 1, 8, 278),
     counted("02/04", 1, 32, 276),
-    counted("06", 1, 8, 1440),
-    counted("06", 1, 32, 2211),
-    counted("06", 2, 8, 1491),
-    counted("06", 2, 32, 2293),
-    counted("07", 1, 8, 2750),
-    counted("07", 1, 32, 3901),
-    counted("07", 2, 8, 3007),
-    counted("07", 2, 32, 4214),
-    counted("60", 1, 8, 116),
+    counted("06", 1, 8, 1449),
+    counted("06", 1, 32, 2220),
+    counted("06", 2, 8, 1486),
+    counted("06", 2, 32, 2288),
+    counted("07", 1, 8, 2778),
+    counted("07", 1, 32, 3905),
+    counted("07", 2, 8, 2979),
+    counted("07", 2, 32, 4161),
+    counted("60", 1, 8, 125),
     counted(NAME, 1, 8, 20),
 ];
 

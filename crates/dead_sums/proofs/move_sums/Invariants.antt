@@ -6,4 +6,4 @@ use Rattle.dead_sums.proofs.move_sums.Given as goal
 
 abbrev pub invariant-loop-j : goal.invariant-loop-j
 invariant-loop-j l =
-    l.sums ≡ sets l.fn.sums l.at (tabulated l.j (λ j. moved_by (get_or l.fn.sums (l.at + j) (pos 0)) (get_or l.effects (l.from + j) (pos 0)) (get_or l.values j (pos 0))))
+    l.sums ≡ sets l.fn.sums 0 (tabulated l.j (λ j. moved_by (get_or l.fn.sums j (pos 0)) (get_or l.effects (l.from + j) (pos 0)) (get_or l.values j (pos 0))))

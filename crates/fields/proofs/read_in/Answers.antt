@@ -1,8 +1,8 @@
 -- `fields::read_in` meets its contract: refusals 14 and 3, and then the field's own answer.
-use Prim.Native.Nat.{ℕ, ◌+◌, ◌-◌}
+use Prim.Native.Nat.{ℕ, ◌+◌}
 use mathlib.Core.List.{List}
+use lib.ListN.{length}
 use mathlib.Core.Path.{◌≡◌, refl, sym, ◌∙◌, ap}
-use native.Mathlib.Omega.{arith}
 use borrow.Author.Tests.{lt-ltb, le-ltb}
 use Rattle.wire.specs.Bytes.{over}
 use Rattle.sheet.specs.declared.Sheet.{Sheet}
@@ -31,7 +31,7 @@ put_answer-written-requires c = (search rules, rw c.from-answer.ensures (refused
 pub returns-in_default : goal.returns-in_default
 unfolding read_in_order read_header
 returns-in_default c =
-    let e = sym c.header_of.ensures.header ∙ c.in_default.is in
+    let e = rw c.in_default.is at c.field_of.ensures.field in
     let p = rw c.from-answer.ensures at c.put_answer-written.ensures in
     rw c.from-answer.ensures (read_on c.requires (record { reading = by_order _ _ _ (rw (le-ltb _ _ c.if-out-lt-ANSWER_ROOM.false, e, p.0)); output = p.1 }))
 
@@ -42,10 +42,9 @@ put_answer-written-requires-2 c =
 pub returns : goal.returns
 unfolding read_in_order read_header
 returns c =
-    let l = c.in-Some.field-0.len in
-    let g : 3 + l - 3 ≡ l = omega arith in
-    let e = sym c.header_of.ensures.header ∙ c.in-Some.is in
+    let f = rw c.in-Some.is at c.field_of.ensures.field in
+    let l = length c.in-Some.field-0.body.now in
     let p = rw c.from-answer-2.ensures at c.put_answer-written-2.ensures in
     rw c.from-answer-2.ensures
     (read_on c.requires
-    (record { reading = by_order _ _ _ (rw (le-ltb _ _ c.if-out-lt-ANSWER_ROOM.false, e, p.0) (ap (reading (3 + l)) (rw g at c.field_in.ensures))); output = p.1 }))
+    (record { reading = by_order _ _ _ (rw (le-ltb _ _ c.if-out-lt-ANSWER_ROOM.false, f.0, p.0) (ap (reading (3 + l)) (rw f.1 at c.field_in.ensures))); output = p.1 }))

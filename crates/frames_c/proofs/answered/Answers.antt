@@ -13,7 +13,7 @@ load-refusal-requires c = rw c.requires fresh_kept
 pub returns-then-is_short : goal.returns-then-is_short
 returns-then-is_short c =
     let a = c.args in
-    short_refused a.state.now a.input.now a.output.now (sym c.is_short.ensures ∙ c.if-is_short.true)
+    rw c.from.ensures (short_refused a.state.now a.input.now a.output.now (sym c.is_short.ensures ∙ c.if-is_short.true))
 
 pub returns-in-Some : goal.returns-in-Some
 returns-in-Some c =

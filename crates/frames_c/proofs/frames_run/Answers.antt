@@ -14,7 +14,7 @@ or_0 (Err refusal) = refl
 pub returns-then-saved-lt-PLACE_ROOM : goal.returns-then-saved-lt-PLACE_ROOM
 returns-then-saved-lt-PLACE_ROOM c =
     let a = c.args in
-    rw c.refused.ensures (small_place a.state.now a.input.now a.output.now a.saved.now (lt-ltb _ _ c.if-saved-lt-PLACE_ROOM.true))
+    rw (c.from-then-saved-lt-PLACE_ROOM.ensures, c.from.ensures) (small_place a.state.now a.input.now a.output.now a.saved.now (lt-ltb _ _ c.if-saved-lt-PLACE_ROOM.true))
 
 pub returns-in-Ok : goal.returns-in-Ok
 returns-in-Ok c =
@@ -26,4 +26,4 @@ returns-in-Ok c =
 pub returns-in-Err : goal.returns-in-Err
 returns-in-Err c =
     let a = c.args in
-    rw c.refused-in-Err.ensures (run_refused a.state.now a.input.now a.output.now a.saved.now (le-ltb _ _ c.if-saved-lt-PLACE_ROOM.false) c.in-Err.ensures)
+    rw c.from-in-Err.ensures (run_refused a.state.now a.input.now a.output.now a.saved.now (le-ltb _ _ c.if-saved-lt-PLACE_ROOM.false) c.in-Err.ensures)

@@ -1,13 +1,17 @@
 -- The cases chosen make the sets.
-use Rattle.std.proofs.Common.{arith, ◌≡◌, ◌+◌, sym, ap, ◌∙◌, get_or}
+use Rattle.std.proofs.Common.{arith, ℕ, ℤ, ◌≡◌, ◌+◌, ◌*◌, ◌<◌, ◌^◌, sym, ap, ◌∙◌, get_or}
 use Rattle.integers.specs.Sets.{has}
 use Rattle.standard.specs.Combination.{case_count}
 use Rattle.standard.specs.Kinds.{group_count}
 use Rattle.naming.specs.declared.Chosen.{Chosen}
-use Rattle.naming.specs.Sets.{named_of}
+use Rattle.naming.specs.Sets.{ChosenInRange, above_in, named_of}
 use Rattle.naming.proofs.Marks.{above_most}
 use Rattle.naming.proofs.Naming.{leads_of, leads_none, leads_more, leads_small, lead_small}
 use Rattle.naming.proofs.sets_of.Goals as goal
+
+-- the cases that all act and those of a subset are fewer than four sets
+few : (a b : Chosen) (x : ℕ → ℤ) {above : ℕ} → a ≡ b → ChosenInRange b → above ≡ above_in (has a.free) x case_count → a.always + above < 4 * 2 ^ case_count
+few a b x e range made = omega (arith, ap (λ (d : Chosen). d.always) e, range.always, made, above_most (has a.free) x case_count)
 
 pub loop-group-init : goal.loop-group-init
 loop-group-init g c = sym (leads_none c.chosen_in-c.result.groups (g.C.CaseEffects.effect c.args.cases))
@@ -30,25 +34,16 @@ loop-group-preserved g c =
     ∙ leads_more c.chosen_in-c.result.groups (g.C.CaseEffects.effect c.args.cases) c.loop-group.group-index
 
 pub overflow_add-result : goal.overflow_add-result
-overflow_add-result g c =
-    omega (
-      arith,
-      ap (λ (d : Chosen). d.always) c.chosen_in-c.ensures,
-      c.requires.1.always,
-      c.above.ensures,
-      above_most (has c.chosen_in-c.result.free) (g.C.CaseEffects.effect c.args.cases) case_count,
-    )
+overflow_add-result g c = omega (arith, few _ _ (g.C.CaseEffects.effect c.args.cases) c.chosen_in-c.ensures c.requires.1 c.above.ensures)
 
 pub overflow_add-result-2 : goal.overflow_add-result-2
 overflow_add-result-2 g c =
+    let x = g.C.CaseEffects.effect c.args.cases in
     omega (
       arith,
-      ap (λ (d : Chosen). d.always) c.chosen_in-c.ensures,
-      c.requires.1.always,
-      c.above.ensures,
-      above_most (has c.chosen_in-c.result.free) (g.C.CaseEffects.effect c.args.cases) case_count,
+      few _ _ x c.chosen_in-c.ensures c.requires.1 c.above.ensures,
       c.loop-group.invariant,
-      leads_small c.chosen_in-c.result.groups (g.C.CaseEffects.effect c.args.cases) c.loop-group.group-index,
+      leads_small c.chosen_in-c.result.groups x c.loop-group.group-index,
     )
 
 pub returns : goal.returns

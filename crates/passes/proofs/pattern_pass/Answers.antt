@@ -3,7 +3,7 @@ use Prim.Native.Nat.{◌+◌, ◌*◌}
 use mathlib.Core.Path.{sym, subst}
 use Rattle.standard.specs.Kinds.{kind_count}
 use Rattle.envelope.specs.declared.Weights.{Weights}
-use Rattle.envelope.specs.Range.{effect_of, WeightsInRange}
+use Rattle.envelope.specs.Range.{effect_of, total_at, WeightsInRange}
 use Rattle.envelope.proofs.Patterns.{pattern_in_range}
 use Rattle.sums.specs.Directions.{held_in}
 use Rattle.directions.specs.Four.{directed, FourOf}
@@ -11,13 +11,13 @@ use Rattle.passes.proofs.Served.{patterns_served}
 use Rattle.passes.proofs.pattern_pass.Goals as goal
 
 pub four_sums_of-requires : goal.four_sums_of-requires
-four_sums_of-requires c = (c.requires.0, subst WeightsInRange (sym c.pattern_weights-w.ensures) (pattern_in_range c.args.p _ c.requires.2))
+four_sums_of-requires c = subst WeightsInRange (sym c.pattern_weights.ensures) (pattern_in_range c.args.p _ c.requires.1)
 
 pub returns : goal.returns
 returns c =
     let held = held_in c.four_sums_of.new.sums in
-    let totals = effect_of c.args.totals.now in
-    let effect = effect_of c.args.effects.all.now in
-    let places = c.args.places.now.sets in
-    patterns_served totals effect c.args.p held places (λ k n. c.args.effects.in_range.range (k * 3 + n)) c.requires.2
-    (subst (λ (v : Weights). FourOf held (directed v totals) places (directed v effect) kind_count) c.pattern_weights-w.ensures c.four_sums_of.ensures)
+    let totals = total_at c.args.station.totals.now in
+    let effect = effect_of c.args.station.effects.all.now in
+    let places = c.args.station.places.now.sets in
+    patterns_served totals effect c.args.p held places (λ k n. c.args.station.effects.in_range.range (k * 3 + n)) c.requires.1
+    (subst (λ (v : Weights). FourOf held (directed v totals) places (directed v effect) kind_count) c.pattern_weights.ensures c.four_sums_of.ensures)

@@ -1,26 +1,19 @@
--- What is found is the last name of the fields passed; where no whole field begins there is no later one.
-use Rattle.std.proofs.Common.{sym, ◌∙◌, refl, arith}
-use Rattle.recheck_names.specs.Names.{field_place, last_name}
-use Rattle.recheck_names.proofs.Walk.{place_more, name_more, name_ended}
+-- What is found is the last name of the fields passed; where no whole field is left there is no later one.
+use Rattle.std.proofs.Common.{sym, subst, None}
+use Rattle.recheck_names.specs.declared.fields.Fields.{Fields}
+use Rattle.recheck_names.proofs.Walk.{Found, found_first, found_more, found_all}
 use Rattle.recheck_names.proofs.last_name.Goals as goal
 
-pub loop-field-init : goal.loop-field-init
-unfolding field_place last_name
-loop-field-init c = record { in_file = omega arith; place = refl; last = refl }
+pub loop-here-init : goal.loop-here-init
+loop-here-init c =
+    let taken = sym c.into_iter-here-iterator.ensures.into_iter_gives in
+    subst (λ (f : Fields). Found c.args.file.now c.args.case f.0.now None) taken (found_first c.args.file.now c.args.case)
 
-pub returns-then-not-is_whole : goal.returns-then-not-is_whole
-returns-then-not-is_whole c =
-    let l = c.loop-field in
-    let a = c.args in
-    name_ended a.file.now a.case l._field _ (omega arith) l.invariant.place (sym c.is_whole.ensures ∙ c.if-not-is_whole.true) l.invariant.last
+pub loop-here-preserved : goal.loop-here-preserved
+loop-here-preserved c =
+    let s = c.in-Some.ensures.steps in
+    found_more c.args.file.now c.args.case c.loop-here.invariant s.whole s.left_is (rw s.here_is at c.name_here.ensures) c.or-found.ensures
 
-pub loop-field-preserved : goal.loop-field-preserved
-loop-field-preserved c =
-    let l = c.loop-field in
-    let a = c.args in
-    let next = c.after-at.ensures in
-    record {
-      in_file = next.to;
-      place = place_more a.file.now l._field l.invariant.place next.place;
-      last = name_more a.file.now a.case l._field l.invariant.place l.invariant.last c.name_here.ensures c.or-found.ensures;
-    }
+pub returns : goal.returns
+returns c =
+    found_all c.args.file.now c.args.case c.loop-here.invariant c.in-None.ensures.steps.whole

@@ -1,11 +1,6 @@
--- What is found is the last name of the fields passed; where no whole field begins there is no later one.
-use Rattle.std.proofs.Common.{◌≡◌, ◌≤◌, length}
-use Rattle.recheck_names.specs.Names.{field_place, last_name}
+-- What is found is the last name of the fields passed.
+use Rattle.recheck_names.proofs.Walk.{Found}
 use Rattle.recheck_names.proofs.last_name.Given as goal
 
-abbrev pub invariant-loop-field : goal.invariant-loop-field
-invariant-loop-field l = record {
-  in_file : l.at ≤ length l.file;
-  place : l.at ≡ field_place l.file l._field;
-  last : l.found ≡ last_name l.file l.case l._field;
-}
+abbrev pub invariant-loop-here : goal.invariant-loop-here
+invariant-loop-here l = Found l.file l.case l.here-iterator.0.now l.found

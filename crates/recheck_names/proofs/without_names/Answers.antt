@@ -1,30 +1,26 @@
--- What stands in the output is what is kept of the fields passed.
-use Rattle.std.proofs.Common.{◌≡◌, refl, length, arith}
-use Rattle.recheck_names.specs.Names.{field_place, kept_up_to}
-use Rattle.recheck_names.proofs.Walk.{place_more}
-use Rattle.recheck_names.proofs.Without.{kept_more, all_kept}
+-- The output is what is kept of the fields passed, and at the end what follows them.
+use Rattle.std.proofs.Common.{sym, ◌∙◌}
+use Rattle.recheck_names.proofs.Without.{passed_first, passed_kept, passed_out, passed_all, all_in}
 use Rattle.recheck_names.proofs.without_names.Goals as goal
 
 pub loop-field-init : goal.loop-field-init
-unfolding field_place kept_up_to
-loop-field-init c = record { in_file = omega arith; no_further = omega arith; place = refl; kept = refl }
+loop-field-init g c =
+    rw c.empty-out.ensures (passed_first c.args.file.now c.args.left_out)
+
+pub loop-field-preserved-then-not-is_left_out : goal.loop-field-preserved-then-not-is_left_out
+loop-field-preserved-then-not-is_left_out g c =
+    let stays = sym c.is_left_out.ensures ∙ c.if-not-is_left_out.true in
+    passed_kept c.args.file.now c.args.left_out c.loop-field.invariant c.in-Some.ensures stays c.push.ensures
 
 pub loop-field-preserved : goal.loop-field-preserved
-loop-field-preserved c =
-    let l = c.loop-field in
-    let a = c.args in
-    let next = c.after-at.ensures in
-    let k = c.keep-to.ensures in
-    record {
-      in_file = next.to;
-      no_further = rw next.place k.upper_bound;
-      place = place_more a.file.now l._field l.invariant.place next.place;
-      kept = kept_more a.file.now a.refused l._field l.invariant.place l.invariant.kept k.kept;
-    }
+loop-field-preserved g c =
+    let goes = sym c.is_left_out.ensures ∙ c.if-not-is_left_out.false in
+    passed_out c.args.file.now c.args.left_out c.loop-field.invariant c.in-Some.ensures goes
 
-pub returns-clause-out_after : goal.returns-clause-out_after
-returns-clause-out_after c =
-    let l = c.loop-field in
-    let a = c.args in
-    let e : l._field ≡ length a.file.now = omega arith in
-    all_kept a.file.now a.refused l._field e l.invariant.place l.invariant.kept c.put.ensures
+pub returns-clause-bytes : goal.returns-clause-bytes
+returns-clause-bytes g c =
+    passed_all c.args.file.now c.args.left_out c.loop-field.invariant c.push-2.ensures c.in_default.ensures
+
+pub returns-clause-most : goal.returns-clause-most
+returns-clause-most g c =
+    all_in c.args.file.now c.args.left_out c.loop-field.invariant c.push-2.ensures

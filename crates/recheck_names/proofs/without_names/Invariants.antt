@@ -1,12 +1,10 @@
--- What stands in the output is what is kept of the fields passed.
-use Rattle.std.proofs.Common.{◌≡◌, ◌≤◌, length, take}
-use Rattle.recheck_names.specs.Names.{field_place, kept_up_to}
+-- The output is what is kept of the fields passed; the measure is what is left.
+use Rattle.std.proofs.Common.{length}
+use Rattle.recheck_names.proofs.Without.{Passed}
 use Rattle.recheck_names.proofs.without_names.Given as goal
 
 abbrev pub invariant-loop-field : goal.invariant-loop-field
-invariant-loop-field l = record {
-  in_file : l.at ≤ length l.file;
-  no_further : l.to ≤ l.at;
-  place : l.at ≡ field_place l.file l._field;
-  kept : take l.to l.out ≡ kept_up_to l.file l.refused l._field;
-}
+invariant-loop-field g l = Passed l.file l.left_out l.here l.out
+
+abbrev pub decreases-loop-field : goal.decreases-loop-field
+decreases-loop-field g l = length l.here

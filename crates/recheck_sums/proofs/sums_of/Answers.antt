@@ -1,11 +1,14 @@
--- At the end each of the sums is the definition's.
-use Rattle.std.proofs.Common.{ℕ, ◌/◌, ◌%◌, ℤ, pos, rules}
+-- Each of the sums is the definition's.
+use Rattle.std.proofs.Common.{ℕ, ◌/◌, ◌%◌, ℤ, pos, ◌≡◌, rules, arith}
 use Rattle.std.proofs.lemmas.List.FromFn.{fill_by_all}
 use Rattle.recheck_sums.specs.Sums.{kind_at, sum_at, sums_of}
+use Rattle.recheck_sums.proofs.Filled.{filled}
 use Rattle.recheck_sums.proofs.sums_of.Goals as goal
 
 pub returns : goal.returns
 unfolding sums_of
 returns c =
     let f : ℕ → ℤ = λ i. sum_at c.args.w.now.places (kind_at i) (i / 6) (i % 3) in
-    fill_by_all f c.loop-i.sums 96 (pos 0) c.loop-i.invariant.0 (search rules)
+    let calls = c.from_fn.ensures.items in
+    let made = filled _ _ (λ i sum. sum ≡ f i) (λ i y q k. search rules) c.from_fn.result 0 96 calls.each in
+    fill_by_all f c.from_fn.result 96 (pos 0) calls.long (λ k l. made k (pos 0) (omega arith) (omega arith))

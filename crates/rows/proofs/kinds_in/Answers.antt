@@ -7,4 +7,4 @@ use Rattle.rows.proofs.kinds_in.Goals as goal
 
 pub returns : goal.returns
 unfolding kinds_in mask_of sum factor_of
-returns c = at kinds_in 0 row_count c.args.row c.requires
+returns c = rw c.from.ensures (at kinds_in 0 row_count c.args.row c.requires)

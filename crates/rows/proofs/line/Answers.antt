@@ -7,4 +7,4 @@ use Rattle.rows.proofs.line.Goals as goal
 
 pub returns : goal.returns
 unfolding entries_in
-returns c = at entries_in [] row_count c.args.row c.requires
+returns c = rw c.from.ensures (at entries_in [] row_count c.args.row c.requires)

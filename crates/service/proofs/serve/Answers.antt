@@ -19,7 +19,7 @@ pub returns-then-not-s : goal.returns-then-not-s
 returns-then-not-s g c =
     let i = c.loop.invariant in
     let t = rw i.6 at c.turn-s.ensures.turned in
-    served (serving_next (rw i.1 at i.0) t) (λ y. absurd (let z : ◌≡◌ {A = ℕ} 0 1 = cc in omega arith))
+    served (serving_next (rw i.1 at i.0) t) (λ y. search rules)
 
 pub loop-preserved : goal.loop-preserved
 loop-preserved g c =

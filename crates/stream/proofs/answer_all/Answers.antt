@@ -1,10 +1,13 @@
 -- The loop answers the fields that are answered now.
-use Rattle.std.proofs.Common.{arith}
+use Rattle.std.proofs.Common.{arith, rules, ◌≡◌}
+use Rattle.stream.specs.Answering.{begun}
 use Rattle.stream.proofs.Going.{going_start, going_room, going_next, going_fewer, going_end}
 use Rattle.stream.proofs.answer_all.Goals as goal
 
 pub loop-sheet-init : goal.loop-sheet-init
-loop-sheet-init c = going_start _ _ _ _ c.requires.0 c.requires.1
+loop-sheet-init c =
+    let same : c.default-p.result ≡ begun = search rules in
+    rw same (going_start _ _ _ _ c.requires.0 c.requires.1)
 
 pub goes_on-requires : goal.goes_on-requires
 goes_on-requires c =

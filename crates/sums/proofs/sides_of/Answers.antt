@@ -37,8 +37,9 @@ loop-k-init g c =
       made = λ d l.
           let e : ℕ → ℤ = g.R.Reading.along c.args.reading (effect_of c.args.effects.all.now) d in
           let made = sides_in c.args.compared (has set) e in
-          let none = get_or-replicate g.row.N d c.nothing-sides.result nothing l ∙ c.nothing-sides.ensures ∙ no_sides c.args.compared (has set) e in
-          subst (λ (m : Members). Walk (has set) case_count made m.0 (get_or (replicate g.row.N c.nothing-sides.result) d nothing)) taken
+          let is : c.default-sides.result ≡ nothing = λ i. record { above = c.default-sides.ensures.0 i; below = c.default-sides.ensures.1 i } in
+          let none = get_or-replicate g.row.N d c.default-sides.result nothing l ∙ is ∙ no_sides c.args.compared (has set) e in
+          subst (λ (m : Members). Walk (has set) case_count made m.0 (get_or (replicate g.row.N c.default-sides.result) d nothing)) taken
           (walk_from case_count set made _ c.requires.cases none);
     }
 

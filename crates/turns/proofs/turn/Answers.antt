@@ -8,7 +8,7 @@ returns-clause-turned g c =
     let a = c.args in
     let m = c.read_some-m in
     let p = c.answer_all-p.ensures in
-    let x = rw c.is_ended-ended.ensures at p.progressed in
-    rw (c.is_ended-ended.ensures, c.is_failed.ensures)
+    let x = rw c.is_ended.ensures at p.progressed in
+    rw c.goes_on.ensures
     (turned a.s.held a.sheet.now a.input.now a.output.now (is_ended m.result.source) (is_failed m.result.source) c.requires.2 m.ensures x p.within.written
-    c.write_all-w.ensures c.shift.ensures)
+    c.write_all-taken.ensures c.shift.ensures)

@@ -1,18 +1,12 @@
 -- The plain rows, those of the zone and the ice rows.
-use Rattle.std.proofs.Common.{ℕ, ℤ, sym, ap, ◌∙◌}
-use Rattle.standard.specs.Rows.{rows_to, by_zone, by_ice}
-use Rattle.terms.specs.Value.{value_of}
-use Rattle.envelope.specs.declared.Best.{Best}
-use Rattle.envelope.specs.Envelope.{best_from, best_among}
+use Rattle.std.proofs.Common.{ℕ, ℤ, sym, ◌∙◌}
 use Rattle.envelope.proofs.Spans.{allowable_rows}
+use Rattle.terms.specs.Value.{value_of}
+use Rattle.governing.proofs.Methods.{compared}
 use Rattle.governing.proofs.Look.allowable.Goals as goal
 
 pub returns : goal.returns
 returns c =
-    let s = c.args.self.settings in
+    let s = c.args.self.rows.settings in
     let v : ℕ → ℤ = λ row. value_of s row c.args.self.terms in
-    c.with_ice.ensures
-    ∙ ap (λ (b : Best). best_among v b (by_ice s (rows_to 41 43)))
-    (c.with_flood-flooded.ensures ∙ ap (λ (b : Best). best_among v b (by_zone s (rows_to 31 35) (rows_to 36 40)))
-    (c.best_in-plain.ensures ∙ ap (λ (b : Best). best_from v b 22 9) c.at.ensures))
-    ∙ sym (allowable_rows s v c.requires)
+    compared v 21 22 9 _ _ c.at.ensures c.best_in-plain.ensures c.with_flood-flooded.ensures c.with_ice.ensures ∙ sym (allowable_rows s v c.requires)

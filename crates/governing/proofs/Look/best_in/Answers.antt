@@ -21,11 +21,17 @@ loop-row-init g c = none _ _ _
 
 pub loop-row-preserved : goal.loop-row-preserved
 loop-row-preserved g c =
-    more (λ row. value_of c.args.self.settings row c.args.self.terms) c.args.held g.row.FIRST c.loop-row.row c.loop-row.auto.row c.loop-row.invariant
+    more (λ row. value_of c.args.self.rows.settings row c.args.self.terms) c.args.held g.row.FIRST c.loop-row.row c.loop-row.auto.row c.loop-row.invariant
     (c.better-best.ensures ∙ ap (λ (x : Best). better_by c.loop-row.best x.row x.value) c.at.ensures)
 
 pub returns : goal.returns
 returns g c =
-    let v : ℕ → ℤ = λ row. value_of c.args.self.settings row c.args.self.terms in
+    let v : ℕ → ℤ = λ row. value_of c.args.self.rows.settings row c.args.self.terms in
     subst (λ (row : ℕ). c.loop-row.best ≡ best_from v c.args.held g.row.FIRST (row - g.row.FIRST)) {x = c.loop-row.row} {y = g.row.LAST + 1} (omega arith)
     c.loop-row.invariant
+
+pub returns-2 : goal.returns-2
+returns-2 g c =
+    let v : ℕ → ℤ = λ row. value_of c.args.self.rows.settings row c.args.self.terms in
+    let is = more v c.args.held g.row.FIRST c.loop-row.row c.loop-row.auto.row c.loop-row.invariant (c.better-best.ensures ∙ ap (λ (x : Best). better_by c.loop-row.best x.row x.value) c.at.ensures) in
+    subst (λ (row : ℕ). c.better-best.result ≡ best_from v c.args.held g.row.FIRST (row + 1 - g.row.FIRST)) {x = c.loop-row.row} {y = g.row.LAST} (omega arith) is

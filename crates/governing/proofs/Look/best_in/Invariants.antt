@@ -5,4 +5,4 @@ use Rattle.envelope.specs.Envelope.{best_from}
 use Rattle.governing.proofs.Look.best_in.Given as goal
 
 abbrev pub invariant-loop-row : goal.invariant-loop-row
-invariant-loop-row g l = l.best ≡ best_from (λ row. value_of l.self.settings row l.self.terms) l.initial.best l.initial.row (l.row - l.initial.row)
+invariant-loop-row g l = l.best ≡ best_from (λ row. value_of l.self.rows.settings row l.self.terms) l.initial.best l.initial.row (l.row - l.initial.row)

@@ -14,4 +14,4 @@ second (suc (suc zero)) e n = refl
 second (suc (suc (suc m))) e n = absurd (omega (arith, ltb-false 2 (suc (suc (suc m))) (neither (eqb (suc (suc (suc m))) 0) (ltb 2 (suc (suc (suc m)))) e).1))
 
 pub allowable-requires : goal.allowable-requires
-allowable-requires c = second c.args.self.settings.method c.args.self.settings_in_range.method c.if-self-eq1.false
+allowable-requires c = second c.args.self.rows.settings.method c.args.self.rows.in_range.method c.if-self-eq1.false

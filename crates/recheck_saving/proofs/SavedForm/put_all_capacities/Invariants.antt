@@ -3,4 +3,4 @@ use Rattle.std.proofs.Common.{◌+◌, ◌*◌, ◌≤◌, length}
 use Rattle.recheck_saving.proofs.SavedForm.put_all_capacities.Given as goal
 
 abbrev pub invariant-loop-station : goal.invariant-loop-station
-invariant-loop-station l = l.self.count ≤ 5807 + 10 * length l.yielded
+invariant-loop-station l = length l.self ≤ 5807 + 10 * length l.yielded

@@ -3,4 +3,4 @@ use Rattle.std.proofs.Common.{◌+◌, ◌*◌, ◌≤◌, length}
 use Rattle.recheck_saving.proofs.SavedForm.put_place.Given as goal
 
 abbrev pub invariant-loop-station : goal.invariant-loop-station
-invariant-loop-station l = l.self.count ≤ l.initial.self.count + 11 * length l.yielded
+invariant-loop-station l = length l.self ≤ length l.initial.self + 11 * length l.yielded

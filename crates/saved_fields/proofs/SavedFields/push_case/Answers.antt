@@ -1,10 +1,9 @@
 -- The next one fits, since what is due for the stations passed is no longer than they allow; appended after it, it is due too.
-use Rattle.std.proofs.Common.{rules, arith, ℕ, ◌+◌, ◌*◌, ◌≤◌, List, ◌++◌, length, length-append, ap, ◌∙◌}
+use Rattle.std.proofs.Common.{rules, arith, ◌+◌, ◌*◌, ◌≤◌, length, length-append}
 use Rattle.effects.specs.Effects.{effect_in}
 use Rattle.saved_fields.specs.Saved.{station_most, saved_most}
 use Rattle.saved_fields.proofs.Runs.{none_appended, one_appended, next_fits}
 use Rattle.saved_fields.proofs.Lengths.{station_most_lem}
-use Rattle.saved_fields.proofs.Signed.{station_put}
 use Rattle.saved_fields.proofs.SavedFields.push_case.Goals as goal
 
 pub loop-station-init : goal.loop-station-init
@@ -17,7 +16,4 @@ push_effects-requires c =
     (search rules, search rules, next_fits c.loop-station.invariant 16 station_most saved_most most room c.loop-station-test.true)
 
 pub loop-station-preserved : goal.loop-station-preserved
-loop-station-preserved c =
-    one_appended c.loop-station.invariant
-    (c.push_effects.ensures
-    ∙ ap (λ (w : List ℕ). c.loop-station.self ++ w) (station_put record { is = c.effects_at.ensures; n = search rules; y = search rules; z = search rules }))
+loop-station-preserved c = one_appended c.loop-station.invariant c.push_effects.ensures

@@ -9,8 +9,8 @@ pub bounds-self-from : goal.bounds-self-from
 bounds-self-from c = rw c.from.ensures (fill_range _ _ _ (sym c.in_ok-check_fill.ensures)).case
 
 pub returns : goal.returns
-returns c =
+returns c range =
     let s = c.args.self.now in
     let due = rw c.kind.ensures at c.in_ok-check_fill.ensures in
     let f = fill_range _ _ _ (sym due) in
-    rw c.from.ensures (made _ s _ due (filled s c.args.case c.args.kind c.requires f.case f.empty))
+    rw c.from.ensures (made _ s _ due (filled s c.args.case c.args.kind range f.case f.empty))
