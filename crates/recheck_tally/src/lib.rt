@@ -122,8 +122,9 @@ impl Tally {
     fn add_failures(&mut self, failed: u64)
         ensures { self.new.differences ≡ with_failures self.old.differences failed }
     {
+        let before = self.differences;
         self.compare(failed == 0, self.readings);
-        self.differences = self.differences.wrapping_add(failed);
+        self.differences = before.wrapping_add(failed);
     }
 
     pub fn add_lists(&mut self, lists: Lists, failed: u64)

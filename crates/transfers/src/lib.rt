@@ -46,11 +46,19 @@ fn retried(
     Some(pause.longer())
 }
 
-// How many of the bytes are written: fewer where a write failed.
+// How many bytes were handed on, and how many of them are written: fewer where a write failed.
+// Stays: the count handed on beside the one written, since a turn promises of its output what this call was given.
+#[derive(Clone, Copy, PartialEq, Eq, Debug)]
+pub struct Sent {
+    pub given: usize,
+    pub taken: usize,
+}
+
+// Writes the bytes.
 // Stays: writes counted to a number that no run reaches, since no fact says that they end and `forever` needs the word Wait, which HANDLES
 // does not give.
-pub fn write_all(rt: &(impl Eprint + Clock), stdout: &mut impl io::Write, bytes: &[u8]) -> usize
-    ensures { result ≤ length bytes.now }
+pub fn write_all(rt: &(impl Eprint + Clock), stdout: &mut impl io::Write, bytes: &[u8]) -> Sent
+    ensures { (result.given ≡ length bytes.now) × (result.taken ≤ length bytes.now) }
 {
     let mut taken = 0;
     let mut pause = Pause::first();
@@ -71,7 +79,10 @@ pub fn write_all(rt: &(impl Eprint + Clock), stdout: &mut impl io::Write, bytes:
             }
         }
     }
-    taken
+    Sent {
+        given: bytes.len(),
+        taken,
+    }
 }
 
 /// What may follow the bytes that are at hand.
@@ -164,5 +175,8 @@ pub fn shift(buffer: &mut [u8], from: usize, to: usize)
     requires { (from ≤ to) × (to ≤ length buffer.old) }
     ensures { buffer.new ≡ over (slice from to buffer.old) buffer.old }
 {
+    if from == 0 {
+        return;
+    }
     buffer.copy_within(from..to, 0);
 }

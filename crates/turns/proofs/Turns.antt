@@ -40,22 +40,25 @@ moved_long from {count = count} {i₁ = i₁} h e =
     ap length (e ∙ sym (front w i₁ k)) ∙ (length-sets i₁ 0 w ∙ h.same)
 
 -- the front of an output that holds the bytes w from its start on
-handed_is : (w o : List ℕ) {o' : List ℕ} {written : ℕ} → o' ≡ over w o → written ≡ length w → take written o' ≡ w
+handed_is : (w o : List ℕ) {o' : List ℕ} {written given : ℕ} → o' ≡ over w o → written ≡ length w → given ≡ length (take written o') → (take given o' ≡ w) × (given ≡ length w)
 unfolding over
-handed_is w o e n = rw (n, e) (take_at w (drop (length w) o) (length w) refl)
+handed_is w o {o'} {written} {given} e n g =
+    let h : take written o' ≡ w = rw (n, e) (take_at w (drop (length w) o) (length w) refl) in
+    let m : given ≡ length w = g ∙ ap length h in
+    ((rw (m ∙ sym n) h), m)
 
 ended_all : (ended : Bool) (w : List ℕ) (room : ℕ) (s : Sheet) → ended ≡ true → ready_of w ≡ false → answer_room ≤ room → answered_of ended room (fields_of w) s ≡ fields_of w
 ended_all ended w room s y e h = rw y (end_fields w room s e h)
 
-pub turned : (held : ℕ) (s : Sheet) (i o : List ℕ) (ended failed : Bool) {count taken : ℕ} {p : Progress} {s' : Sheet} {i₁ i₂ o' : List ℕ} →
+pub turned : (held : ℕ) (s : Sheet) (i o : List ℕ) (ended failed : Bool) {count given taken : ℕ} {p : Progress} {s' : Sheet} {i₁ i₂ o' : List ℕ} →
     answer_room ≤ length o → Filled held count ended failed i i₁ →
     Progressed (answered_of ended (length o) (fields_of (take count i₁)) s) begun s o p s' o' →
     p.written ≤ length o →
-    taken ≤ length (take p.written o') →
+    (given ≡ length (take p.written o')) × (taken ≤ length (take p.written o')) →
     i₂ ≡ over (slice p.consumed count i₁) i₁ →
-    Turned (length o) s (take held i) (take p.written o') taken s' (take (count - p.consumed) i₂)
-    (((not ended && not failed) && eqb taken p.written) && not p.stop)
-turned held s i o ended failed {count} {taken} {p} {s'} {i₁} {i₂} {o'} g h a r w m =
+    Turned (length o) s (take held i) (take given o') taken s' (take (count - p.consumed) i₂)
+    (((not ended && not failed) && eqb taken given) && not p.stop)
+turned held s i o ended failed {count} {given} {taken} {p} {s'} {i₁} {i₂} {o'} g h a r w m =
     let e = at_hand h in
     let got = take held i ++ slice held count i₁ in
     let fs = answered_of ended (length o) (fields_of got) s in
@@ -65,7 +68,7 @@ turned held s i o ended failed {count} {taken} {p} {s'} {i₁} {i₂} {o'} g h a
     let l : count ≤ length i₁ = omega (arith, h.most, h.same) in
     let n : p.written ≡ length b = omega (arith, x.written) in
     let k : length b ≤ length o = omega arith in
-    let q = handed_is b o (x.output ∙ front b o k) n in
+    let q = handed_is b o (x.output ∙ front b o k) n w.0 in
     record {
       new = slice held count i₁;
       ended = ended;
@@ -77,9 +80,9 @@ turned held s i o ended failed {count} {taken} {p} {s'} {i₁} {i₂} {o'} g h a
           let v : got ≡ take held i = sym e ∙ (ap (λ (j : ℕ). take j i₁) d.0 ∙ h.kept) in
           ended_all ended got (length o) s y (ap ready_of v ∙ d.1) g;
       sheet = x.sheet;
-      handed = q;
-      most = w;
+      handed = q.0;
+      most = rw q.0 (omega (arith, q.1, w.0, w.1));
       left = rw m (held_is i₁ p.consumed count l ∙ (ap (λ (j : ℕ). drop j (take count i₁)) c ∙ ap (drop (span_of fs)) e));
       unended = h.unended;
-      goes_on = rw (x.stop, q, n);
+      goes_on = rw (x.stop, q.0, q.1);
     }

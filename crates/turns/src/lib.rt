@@ -51,13 +51,13 @@ pub fn turn(
 {
     let m = transfers::read_some(rt, stdin, input, s.held, s.pause);
     let p = stream::answer_all(sheet, m.source.is_ended(), &input[..m.count], output);
-    let taken = transfers::write_all(rt, stdout, &output[..p.written]);
+    let sent = transfers::write_all(rt, stdout, &output[..p.written]);
     transfers::shift(input, p.consumed, m.count);
     Service {
         held: m.count - p.consumed,
         pause: m.pause,
-        given: p.written,
-        taken,
-        more: goes_on(m.source, p.written, taken, p.stop),
+        given: sent.given,
+        taken: sent.taken,
+        more: goes_on(m.source, sent.given, sent.taken, p.stop),
     }
 }

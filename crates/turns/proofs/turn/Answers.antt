@@ -11,4 +11,4 @@ returns-clause-turned g c =
     let x = rw c.is_ended.ensures at p.progressed in
     rw c.goes_on.ensures
     (turned a.s.held a.sheet.now a.input.now a.output.now (is_ended m.result.source) (is_failed m.result.source) c.requires.2 m.ensures x p.within.written
-    c.write_all-taken.ensures c.shift.ensures)
+    c.write_all-sent.ensures c.shift.ensures)
