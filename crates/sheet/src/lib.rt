@@ -1,7 +1,7 @@
 #![tactic(auto)]
 
 // The sheet: settings, 32 case places and 16 stations; the edits of tags 01 to 05, 08 and 09, the looks and the names of cases.
-ghost use Rattle.std.specs.Prelude.{◌≡◌, ◌<◌};
+ghost use Rattle.std.specs.Prelude.{◌≡◌, ◌<◌, set};
 ghost use Rattle.std.specs.Fn.{FnOnceReturnsAtMut, FnOnceTakesAtMut};
 ghost use Rattle.wire.specs.Bytes.{signed16};
 ghost use Rattle.standard.specs.Rows.{settings_of};
@@ -93,10 +93,11 @@ impl Sheet {
         Ok(Answer::Accepted)
     }
 
-    // Tag 02, in place. An empty place has no effects, so that none is stored, and no sum changes.
+    // Tag 02, in place. An empty place has no effects, so that none is stored, and no sum changes, whatever a sheet holds.
     #[tactic(auto, using(crate::proofs::Refusals::refused))]
     pub fn fill_in(&mut self, case: u8, kind: u8) -> Result<Answer, Refusal>
-        ensures { InRange self.old → answered result self.new ≡ edited (unless_refused (due_fill self.old case kind) self.old (with_kind self.old case kind)) }
+        ensures stored { answered result self.new ≡ edited (unless_refused (due_fill self.old case kind) self.old (record { settings = self.old.settings; kinds = set self.old.kinds case kind; effects = self.old.effects; sums = self.old.sums; capacities = self.old.capacities })) }
+        ensures filled { InRange self.old → answered result self.new ≡ edited (unless_refused (due_fill self.old case kind) self.old (with_kind self.old case kind)) }
     {
         refusals::check_fill(case, kind, self.kind(case))?;
         self.kinds[usize::from(case)] = kind;
