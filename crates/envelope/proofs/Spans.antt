@@ -37,6 +37,10 @@ module _ (s : Settings) (v : ℕ → ℤ) where
   unfolding best_of best_over best_among open_rows plain_rows flood_rows ice_rows
   allowable_rows e = rw e (among_join v (best_from v (best_at 21 (v 21)) 22 9) (by_zone s (rows_to 31 35) (rows_to 36 40)) (by_ice s (rows_to 41 43)))
 
+  pub no_rows : (s.method ≡ 1 → ⊥) → (s.method ≡ 2 → ⊥) → best_of s v ≡ best_at 0 (v 0)
+  unfolding best_of best_over open_rows plain_rows flood_rows ice_rows
+  no_rows a b = rw (ne_eqb s.method 1 a, ne_eqb s.method 2 b)
+
   module _ (b : Best) (one two : Span) where
     pub first_zone : s.zone ≡ 1 → best_in v b one ≡ best_among v b (by_zone s one two)
     unfolding best_among

@@ -2,7 +2,7 @@
 -- Assumes nothing.
 use Prim.Native.Nat.{ℕ, ◌+◌, ◌-◌, ◌≤◌}
 use native.Mathlib.Omega.{arith}
-use mathlib.Core.Path.{◌≡◌, refl, ap}
+use mathlib.Core.Path.{◌≡◌, refl, sym, ap, ◌∙◌}
 use mathlib.Core.List.{List, [], ◌∷◌}
 use mathlib.Core.Logic.{⊎_elim}
 use mathlib.Core.Bool.{Bool, true, false, cond, not, ◌||◌}
@@ -54,6 +54,13 @@ header_is tag len =
         ap (λ (f : ℕ → Bool). f len)
         (same_at (λ t. exactly (length_of t)) (λ t. (get_or tags (t - 1) straining_tag).fits) 1 last_tag tag sizes
         (omega (arith, eqb-false tag 0 k.0)) (omega (arith, ltb-false last_tag tag k.1)))
+
+no_test : (u v : Bool) → ◌≡◌ {A = ℕ} (cond u 1 (cond v 2 0)) 0 → u ≡ false
+no_test true v e = absurd (let z : ◌≡◌ {A = ℕ} 1 0 = e in omega arith)
+no_test false v e = refl
+
+pub known_tag : (tag len : ℕ) → due_header tag len ≡ 0 → unknown_tag tag ≡ false
+known_tag tag len e = no_test (unknown_tag tag) (not ((tag_at tag).fits len)) (sym (header_is tag len) ∙ e)
 
 -- 1 and 2 come before the refusals of the tag
 by_header_refusals : (u v : Bool) (n : ℕ) (a : Answer) (s s' : Sheet) (k : ℕ) →

@@ -1,9 +1,9 @@
 -- What the calls come to: the fields answered, and the refusals.
 -- Assumes nothing.
-use Prim.Native.Nat.{ℕ, ◌≤◌}
+use Prim.Native.Nat.{ℕ, ◌*◌, ◌≤◌}
 use mathlib.Core.Path.{◌≡◌, refl, sym, ap}
 use mathlib.Core.List.{List}
-use mathlib.Core.Bool.{true, false}
+use mathlib.Core.Bool.{Bool, true, false, cond}
 use native.Mathlib.Omega.{arith}
 use borrow.Author.Tests.{le-ltb, ltb-false}
 use lib.ListN.{length}
@@ -11,12 +11,13 @@ use lib.Dec.{ltb}
 use Rattle.std.specs.Prelude.{Option, Some, None, Result, Ok, Err}
 use Rattle.wire.specs.Bytes.{over}
 use Rattle.sheet.specs.declared.Sheet.{Sheet}
-use Rattle.saved_fields.specs.Saved.{saved_bytes}
+use Rattle.answers.specs.Answers.{answer_room}
+use Rattle.saved_fields.specs.Saved.{saved_bytes, saved_most}
 use Rattle.saved_fields.proofs.Lengths.{saved_most_lem}
 use Rattle.saving.specs.Saving.{saved_answer, saved_over}
 use Rattle.lists.specs.Lists.{fields_of, short, sheet_after}
 use Rattle.loading.specs.Loaded.{loaded, due_state}
-use Rattle.frames_c.specs.Calls.{place_room, due_answer, answered, ran_of, Answered, AnswerDone, RunDone, count_unless, count_of}
+use Rattle.frames_c.specs.Calls.{place_room, due_answer, due_run, answered, ran_of, Answered, AnswerDone, RunDone, count_unless, count_of}
 
 none_of : (due : Option ℕ) {w n : ℕ} → count_unless due w ≡ Ok n → (due ≡ None) × (n ≡ w)
 none_of None {w} {n} e = let f : n ≡ w = cc in (refl, f)
@@ -28,6 +29,20 @@ some_of (Some k) w {n = n} e = let f : k ≡ n = cc in ap Some f
 
 some_none : {A : Type 0} {n : ℕ} → ◌≡◌ {A = Option ℕ} (Some n) None → A
 some_none e = absurd (let z : ◌≡◌ {A = ℕ} 0 1 = cc in omega arith)
+
+-- no refusal is due: neither 14 nor that of the state
+none_due : (t : Bool) (d : Option ℕ) → cond t (Some 14) d ≡ None → (t ≡ false) × (d ≡ None)
+none_due true d e = some_none e
+none_due false d e = (refl, e)
+
+module _ (state input o : List ℕ) where
+  pub answer_room_lem : due_answer state input (length o) ≡ None → answer_room * length (fields_of input) ≤ length o
+  answer_room_lem e = ltb-false (length o) (answer_room * length (fields_of input)) (none_due (short input (length o)) (due_state state) e).0
+
+  pub run_due : (place : List ℕ) → due_run state input (length o) (length place) ≡ None → (saved_most ≤ length place) × (due_answer state input (length o) ≡ None)
+  run_due place e =
+      let x = none_due (ltb (length place) place_room) (due_answer state input (length o)) e in
+      (omega (arith, ltb-false (length place) place_room x.0), x.1)
 
 module _ (state input o : List ℕ) {s : Sheet} where
   pub short_refused : short input (length o) ≡ true → Answered state input o (Err 14) s o

@@ -3,8 +3,9 @@
 use Prim.Native.Nat.{◌+◌, ◌*◌, ◌<◌, ◌^◌}
 use native.Mathlib.Omega.{arith}
 use mathlib.Core.Path.{◌≡◌}
+use mathlib.Core.Bool.{Bool}
 use lib.IntN.{ℤ, pos, neg_ℤ, ◌+ℤ◌, ◌-ℤ◌, ◌*ℤ◌, nat_abs, +ℤ_idl}
-use lib.Signed.{mag}
+use lib.Signed.{mag, lt_z}
 use mir.Syntax.{w64}
 use mir.Val.{to_z, of_z, SFits}
 use mir.ValLaws.{to_z-of_z}
@@ -22,7 +23,13 @@ sum_fits a b h = rw (back a (omega arith), back b (omega arith)) (small (a +ℤ 
 pub sum_back : (a b : ℤ) → nat_abs a + nat_abs b < 2 ^ 63 → to_z w64 (of_z w64 (to_z w64 (of_z w64 a) +ℤ to_z w64 (of_z w64 b))) ≡ a +ℤ b
 sum_back a b h = rw (back a (omega arith), back b (omega arith)) (back (a +ℤ b) (omega (arith, abs_add a b)))
 
+pub test_back : (a b : ℤ) (t : Bool) → nat_abs a < 2 ^ 63 → nat_abs b < 2 ^ 63 → lt_z (to_z w64 (of_z w64 a)) (to_z w64 (of_z w64 b)) ≡ t → lt_z a b ≡ t
+test_back a b t h k e = rw (back a h, back b k) at e
+
 -- `-x` is `0 - x` on the machine
+pub neg_fits : (x : ℤ) → nat_abs x < 2 ^ 63 → SFits w64 (pos 0 -ℤ to_z w64 (of_z w64 x))
+neg_fits x h = rw (back x h, +ℤ_idl (neg_ℤ x)) (small (neg_ℤ x) (omega (arith, abs_negated x)))
+
 pub neg_back : (x : ℤ) → nat_abs x < 2 ^ 63 → to_z w64 (of_z w64 (pos 0 -ℤ to_z w64 (of_z w64 x))) ≡ neg_ℤ x
 neg_back x h = rw (back x h, +ℤ_idl (neg_ℤ x)) (back (neg_ℤ x) (omega (arith, abs_negated x)))
 
@@ -41,6 +48,13 @@ module _ (a w x : ℤ) (fw : SFits w64 w) (fx : SFits w64 x) (h : nat_abs a + na
 pub read : (z : ℤ) → mag z < 2 ^ 63 → to_z w64 (of_z w64 z) ≡ z
 read z h = to_z-of_z w64 z (record { sfits = h })
 
+pub read_test : (a b : ℤ) (t : Bool) → mag a < 2 ^ 63 → mag b < 2 ^ 63 → lt_z (to_z w64 (of_z w64 a)) (to_z w64 (of_z w64 b)) ≡ t → lt_z a b ≡ t
+read_test a b t h k e = rw (read a h, read b k) at e
+
 pub read_room : (a w x : ℤ) → mag a < 2 ^ 63 → mag w < 2 ^ 63 → mag x < 2 ^ 63 → nat_abs a + nat_abs w * nat_abs x < 2 ^ 63 →
     nat_abs (to_z w64 (of_z w64 a)) + nat_abs (to_z w64 (of_z w64 w)) * nat_abs (to_z w64 (of_z w64 x)) < 2 ^ 63
 read_room a w x h k l r = rw (read a h, read w k, read x l) r
+
+pub read_scaled : (r a w x : ℤ) → mag a < 2 ^ 63 → mag w < 2 ^ 63 → mag x < 2 ^ 63 →
+    r ≡ to_z w64 (of_z w64 a) +ℤ to_z w64 (of_z w64 w) *ℤ to_z w64 (of_z w64 x) → r ≡ a +ℤ w *ℤ x
+read_scaled r a w x h k l e = rw (read a h, read w k, read x l) at e

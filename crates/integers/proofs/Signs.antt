@@ -4,9 +4,10 @@ use Prim.Native.Nat.{ℕ, zero, suc, ◌+◌, ◌*◌, ◌-◌, ◌<◌, ◌≤�
 use native.Mathlib.Nat as NatL
 use native.Mathlib.Omega.{arith}
 use mathlib.Core.Path.{◌≡◌, refl, sym, ap, ◌∙◌}
-use mathlib.Core.Bool.{Bool, true, false, not, cond}
+use mathlib.Core.Bool.{Bool, true, false, not, cond, false≢true}
 use lib.Dec.{T, ltb, ltb→lt, nltb→le, leb→le, le→leb}
 use lib.IntN.{ℤ, pos, negsuc, ◌+ℤ◌, ◌*ℤ◌, neg_ℤ, nat_abs, sub_ℕ}
+use borrow.Author.Tests.{ltb-true, ltb-false}
 use lib.Signed.{◌≤ℤ◌, lt_z, mag}
 use Rattle.integers.specs.Sums.{up, down}
 
@@ -113,6 +114,18 @@ pub ≤_trans : {a b c : ℤ} → a ≤ℤ b → b ≤ℤ c → a ≤ℤ c
 ≤_trans {a} {b} {c} h k = le_in a c (omega (arith, le_out a b h, le_out b c k))
 
 -- a test of two numbers, by parts
+pub less_parts : (a b : ℤ) → lt_z a b ≡ true → up a + down b < up b + down a
+less_parts (pos a) (pos b) e = omega (arith, ltb-true a b e)
+less_parts (pos a) (negsuc b) e = absurd (false≢true e)
+less_parts (negsuc a) (pos b) e = omega arith
+less_parts (negsuc a) (negsuc b) e = omega (arith, ltb-true b a e)
+
+pub not_less_parts : (a b : ℤ) → lt_z a b ≡ false → up b + down a ≤ up a + down b
+not_less_parts (pos a) (pos b) e = omega (arith, ltb-false a b e)
+not_less_parts (pos a) (negsuc b) e = omega arith
+not_less_parts (negsuc a) (pos b) e = absurd (false≢true (sym e))
+not_less_parts (negsuc a) (negsuc b) e = omega (arith, ltb-false b a e)
+
 -- a test of two numbers, as an order
 pub less_le : (a b : ℤ) → T (lt_z a b) → a ≤ℤ b
 less_le (pos a) (pos b) t = le_in (pos a) (pos b) (omega (arith, ltb→lt a b t))

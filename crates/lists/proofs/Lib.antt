@@ -1,3 +1,4 @@
 pub mod Left
 pub mod Placed
 pub mod Joins
+pub mod Counts

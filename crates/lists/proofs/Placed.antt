@@ -18,6 +18,10 @@ use Rattle.fields.specs.Readings.{FieldRead}
 use Rattle.fields.proofs.Consumed.{same_with_room, read_consumed, read_written}
 use Rattle.answers.proofs.Room.{answer_fits}
 
+-- a part that starts within a list ends where the list does
+pub part_long : (w : List ℕ) (i : ℕ) → i ≤ length w → i + length (take (length w - i) (drop i w)) ≡ length w
+part_long w i h = rw (part_from w i, length-drop) (omega arith)
+
 -- bytes put over the front of the part from place i on
 put_part : (o w : List ℕ) (i : ℕ) → i + length w ≤ length o → put_mid i (length o - i) o (over w (take (length o - i) (drop i o))) ≡ sets o i w
 unfolding over

@@ -19,6 +19,21 @@ use Rattle.standard.specs.Combination.{case_count}
 use Rattle.envelope.specs.Places.{PlacesInRange}
 use Rattle.naming.specs.Sets.{lead_bit, lead_in, gathered_of}
 
+-- ---- the cases of a run of kinds
+-- there is room for each kind's cases
+pub gathered_small : (places : List ℕ) (factored first count : ℕ) → PlacesInRange places → 0 < first → first + count ≤ kind_count →
+    gathered_of places factored first count ≤ count * 2 ^ case_count
+unfolding gathered_of
+gathered_small places factored first count range h l =
+    sum_most count (2 ^ case_count) (λ i. when (has factored (first + i)) (get_or places (first + i) 0))
+    (λ i m. omega (arith, when_le (has factored (first + i)) (get_or places (first + i) 0), range.each (first + i) (omega arith) (omega arith)))
+
+-- one kind more
+pub gathered_more : (places : List ℕ) (factored first i set next : ℕ) → set ≡ gathered_of places factored first i → (t : Bool) → has factored (first + i) ≡ t →
+    next ≡ set + when t (get_or places (first + i) 0) → next ≡ gathered_of places factored first (i + 1)
+unfolding gathered_of sum
+gathered_more places factored first i set next e t h n = rw add-one (n ∙ (λ j. e j + when (sym h j) (get_or places (first + i) 0)))
+
 -- ---- the cases of some kinds
 -- a kind has cases of its own
 pub numbered : (kind : Kind) → (0 < number_of kind) × (number_of kind < kind_count)

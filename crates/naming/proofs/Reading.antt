@@ -1,16 +1,51 @@
--- What the machine reads back of the products of weights and effects, and of their sums.
+-- What the machine reads back: the sign of a number, an effect that is widened, the products of weights and effects, and their sums.
 -- Assumes nothing.
-use Prim.Native.Nat.{◌+◌, ◌*◌, ◌<◌, ◌≤◌, ◌^◌}
+use Prim.Native.Nat.{ℕ, suc, ◌+◌, ◌*◌, ◌<◌, ◌≤◌, ◌^◌}
 use native.Mathlib.Nat.{mul-le-mul}
 use native.Mathlib.Omega.{arith}
+use mathlib.Core.List.{List}
 use mathlib.Core.Path.{◌≡◌, sym, ap, ◌∙◌, subst}
-use lib.IntN.{ℤ, ◌+ℤ◌, ◌*ℤ◌, nat_abs}
-use mir.Syntax.{w64}
+use borrow.Author.Tests.{lt-ltb}
+use lib.Dec.{ltb, leb-suc-zero}
+use lib.IntN.{ℤ, pos, negsuc, ◌+ℤ◌, ◌*ℤ◌, nat_abs}
+use lib.ListN.{get_or}
+use lib.Signed.{lt_z, mag}
+use mir.Syntax.{w16, w64}
 use mir.Val.{to_z, of_z, SFits}
-use Rattle.integers.proofs.Machine.{small, back}
-use Rattle.integers.proofs.Signs.{abs_add, abs_mul}
+use mir.ValLaws.{to_z-of_z}
+use Rattle.integers.specs.Sums.{up, down}
+use Rattle.integers.proofs.Machine.{small, back, read}
+use Rattle.integers.proofs.Signs.{abs_add, abs_mul, abs_parts, mag_le}
 use Rattle.envelope.specs.declared.Weights.{Weights}
-use Rattle.envelope.specs.Range.{effect_limit, weight_most, WeightsInRange}
+use Rattle.envelope.specs.Range.{effect_of, effect_limit, weight_most, EffectsInRange, WeightsInRange}
+use Rattle.naming.proofs.Marks.{part_above}
+
+below : (x : ℤ) → lt_z x (pos 0) ≡ ltb 0 (down x)
+below (pos n) = leb-suc-zero n
+below (negsuc n) = sym (lt-ltb 0 (suc n) (omega arith))
+
+-- the sign of a number that the machine reads back
+module _ (x : ℤ) (fits : SFits w64 x) where
+  pub positive : lt_z (pos 0) (to_z w64 (of_z w64 x)) ≡ ltb 0 (up x)
+  positive = ap (λ (z : ℤ). lt_z (pos 0) z) (to_z-of_z w64 x fits) ∙ part_above 0 x
+
+  pub negative : lt_z (to_z w64 (of_z w64 x)) (pos 0) ≡ ltb 0 (down x)
+  negative = ap (λ (z : ℤ). lt_z z (pos 0)) (to_z-of_z w64 x fits) ∙ below x
+
+-- what is widened of an effect is the effect, and is what the machine reads back
+pub widened : (z r : ℤ) → mag z < 2 ^ 15 → mag r < 2 ^ 63 → r ≡ to_z w16 (of_z w16 z) → to_z w64 (of_z w64 r) ≡ z
+widened z r h k e = read r k ∙ e ∙ to_z-of_z w16 z (record { sfits = h })
+
+-- the same of an effect in a list in range
+pub effect_widened : (effects : List ℤ) → EffectsInRange effects → (i : ℕ) (r : ℤ) → mag r < 2 ^ 63 → r ≡ to_z w16 (of_z w16 (get_or effects i (pos 0))) →
+    to_z w64 (of_z w64 r) ≡ get_or effects i (pos 0)
+effect_widened effects range i r k e =
+    let z : ℤ = get_or effects i (pos 0) in
+    widened z r (omega (arith, mag_le z, abs_parts z, range.range i)) k e
+
+-- so is a weight
+pub weight_back : (v : ℤ) → nat_abs v ≤ weight_most → to_z w64 (of_z w64 v) ≡ v
+weight_back v h = back v (omega arith)
 
 abbrev pub kept : ℤ → ℤ
 kept z = to_z w64 (of_z w64 z)
@@ -27,6 +62,16 @@ module _ (v x : ℤ) (h : nat_abs v ≤ weight_most) (l : nat_abs x ≤ effect_l
 
   pub product_is : kept (kept v *ℤ kept x) ≡ v *ℤ x
   product_is = ap kept same ∙ back (v *ℤ x) (omega (arith, product_small))
+
+-- the weighed effects of a case are small
+module _ (effects : List ℤ) (k : ℕ) (range : EffectsInRange effects) where
+  pub one_small : (v : ℤ) (j : ℕ) → nat_abs v ≤ weight_most → nat_abs (v *ℤ effect_of effects k j) ≤ weight_most * 10000
+  one_small v j h = product_small v (effect_of effects k j) h (range.range (k * 3 + j))
+
+  pub two_small : (v w : ℤ) (i j : ℕ) → nat_abs v ≤ weight_most → nat_abs w ≤ weight_most →
+      nat_abs (v *ℤ effect_of effects k i +ℤ w *ℤ effect_of effects k j) ≤ 2 * (weight_most * 10000)
+  two_small v w i j h l =
+      omega (arith, abs_add (v *ℤ effect_of effects k i) (w *ℤ effect_of effects k j), one_small v i h, one_small w j l)
 
 module _ (s t a b : ℤ) (is : s ≡ a) (same : t ≡ b) (h : nat_abs a + nat_abs b < 2 ^ 63) where
   pub sum_fits : SFits w64 (s +ℤ t)

@@ -64,6 +64,14 @@ module _ (file : List ℕ) where
   unfolding after_field
   after_stays at h = rw h refl
 
+  pub after_least : (at : ℕ) → at ≤ after_field file at
+  unfolding after_field
+  after_least at = further (is_whole file at)
+    where
+      further : (whole : Bool) → at ≤ cond whole (at + 3 + pair_at file (at + 1)) at
+      further true = omega arith
+      further false = omega arith
+
   -- what is left of the file after so many fields
   pub record Left (n : ℕ) (left : List ℕ) : Type 0 where
     pub is : left ≡ drop (field_place file n) file

@@ -3,7 +3,7 @@
 
 #![tactic(auto)]
 
-ghost use Rattle.std.specs.Prelude.{◌≡◌, ◌≢◌, ◌+◌, ◌<◌, length};
+ghost use Rattle.std.specs.Prelude.{◌≡◌, ◌≢◌, ◌⊎◌, ◌+◌, ◌<◌, length};
 ghost use Rattle.recheck_offices.specs.Limits.{EffectWithin, CapacityWithin};
 ghost use Rattle.recheck_offices.specs.Offices.{is_chosen, others, given_by, looks_at};
 ghost use Rattle.recheck_offices.specs.Offices.{other_effect, other_capacity, other_value, with_pair, changed_pair, changed_three, changed, same_bytes, answers_agree};
@@ -86,6 +86,7 @@ pub fn looks_at(field: &[u8], stations: Stations) -> bool
 fn other_effect(effect: u16) -> u16
     ensures value { result ≡ other_effect effect }
     ensures other { EffectWithin effect → EffectWithin result × (result ≢ effect) }
+    ensures kept { 10000 < effect → effect < 55536 → result ≡ effect }
 {
     match effect {
         0..=10000 => effect.wrapping_sub(10000),
@@ -98,6 +99,7 @@ fn other_effect(effect: u16) -> u16
 fn other_capacity(capacity: u16) -> u16
     ensures value { result ≡ other_capacity capacity }
     ensures other { CapacityWithin capacity → CapacityWithin result × (result ≢ capacity) }
+    ensures kept { (capacity ≡ 0) ⊎ (10000 < capacity) → result ≡ capacity }
 {
     match capacity {
         1..=10000 => 10001 - capacity,

@@ -18,7 +18,7 @@ use Rattle.sums.specs.Sums.{total_count, TotalsHeld}
 use Rattle.integers.proofs.Linear.{where_agrees}
 use Rattle.effects.specs.Effects.{station_length, effect_in, place}
 use Rattle.dead_sums.specs.DeadSums.{no_sums, sum_in, station_by, of_dead_kind}
-use Rattle.dead_sums.proofs.Sums.{station_is, three_long, sum_is}
+use Rattle.dead_sums.proofs.Sums.{sums_long, station_is, three_long, sum_is}
 use Rattle.sheet.specs.declared.Sheet.{Sheet}
 use Rattle.sheet.specs.Sheet.{totals_in, effect_at, capacity_at}
 use Rattle.refusals.specs.Refusals.{capacity_outside, due_extremes, due_utilisation_at}
@@ -57,6 +57,9 @@ module _ (s : Sheet) (t : ℕ) (h : InRange s) (l : t < station_count) where
   effect_seen k j m n =
       let e : t * station_length + (k * 3 + j) ≡ place k t + j = omega arith in
       station_at (k * 3 + j) (omega arith) ∙ ap (λ (i : ℕ). get_or s.effects i (pos 0)) e
+
+  pub sums_long_at : length s.sums ≡ station_count
+  sums_long_at = ap length h.sums_true ∙ sums_long (of_dead_kind s.kinds) s.effects
 
   -- the sums held for the station are the totals of its D and F cases
   pub totals_held : TotalsHeld (totals_in s.sums t) s.kinds (station_effects s t)

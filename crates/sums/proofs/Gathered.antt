@@ -1,6 +1,6 @@
 -- The sums of the kinds, one kind after the other, and the sets of the cases, one case after the other.
 -- Assumes nothing.
-use Prim.Native.Nat.{ℕ, zero, suc, ◌+◌, ◌*◌, ◌<◌, ◌^◌}
+use Prim.Native.Nat.{ℕ, zero, suc, ◌+◌, ◌*◌, ◌<◌, ◌≤◌, ◌^◌}
 use native.Mathlib.Decide.{ℕ_discrete}
 use native.Mathlib.Nat.{pow-suc}
 use native.Mathlib.Numerals.{add-one}
@@ -10,7 +10,7 @@ use mathlib.Core.List.{List}
 use mathlib.Core.Path.{◌≡◌, refl, sym, ap, ◌∙◌, subst}
 use borrow.Author.Tests.{eq-eqb, ne_eqb}
 use lib.Dec.{eqb}
-use lib.IntN.{ℤ, pos}
+use lib.IntN.{ℤ, pos, nat_abs}
 use lib.ListN.{length, get_or, set, replicate, length-set}
 use lib.Pow.{pow-lt}
 use lib.Seq.{get_or-set_same, get_or-set_other}
@@ -18,12 +18,16 @@ use Rattle.integers.specs.Sums.{when, sum, mask_of, up, down}
 use Rattle.integers.specs.Sets.{has}
 use Rattle.integers.proofs.Masks.{bit_in_mask, mask_below}
 use Rattle.integers.proofs.Signs.{neg_down}
-use Rattle.integers.proofs.Sums.{sum_same, most_same}
+use Rattle.integers.proofs.Sums.{ltb_cases, sum_same, most_same}
+use Rattle.integers.proofs.Linear.{where_most}
 use Rattle.standard.specs.Kinds.{class_of, kind_count}
 use Rattle.standard.specs.Combination.{case_count}
+use Rattle.optimum.specs.Row.{total_of}
+use Rattle.envelope.specs.Range.{effect_most}
 use Rattle.envelope.specs.Places.{Places, PlacesInRange}
 use Rattle.sums.specs.declared.Sides.{Sides}
-use Rattle.sums.specs.Sums.{total_count, part_of, alone, held_by, held_of, among, sides_by, split_of, sides_in, KindPut, SumsOf, Summed, TotalsOf}
+use Rattle.sums.specs.Sums.{total_count, part_of, alone, held_by, held_of, held_at, among, sides_by, split_of, sides_in, sum_most, KindPut, SumsOf, Summed, TotalsOf, SumsInRange}
+use Rattle.sums.proofs.Held.{part_le, held_most}
 
 -- ---- the kinds
 
@@ -100,6 +104,22 @@ summed held totals places kind e q true h =
 
 pub places_in_range : (places : List ℕ) (kind : ℕ → ℕ) → Places places kind → PlacesInRange places
 places_in_range places kind q = record { long = q.long; each = λ j p l. omega (arith, q.each j p l, mask_below case_count (λ k. eqb (kind k) j)) }
+
+pub total_most_lem : (kind : ℕ → ℕ) (e : ℕ → ℤ) → ((k : ℕ) → nat_abs (e k) ≤ effect_most) → (j t : ℕ) → part_of t (total_of kind e j) ≤ case_count * effect_most
+unfolding total_of
+total_most_lem kind e small j t = omega (arith, part_le t (total_of kind e j), where_most case_count (λ k. eqb (kind k) j) effect_most e (λ k _. small k))
+
+-- whatever the kinds are, no sum is above the greatest
+pub summed_most : (held : ℕ → ℕ → ℕ) (kind : ℕ → ℕ) (e : ℕ → ℤ) → Summed held kind e → ((k : ℕ) → nat_abs (e k) ≤ effect_most) →
+    (j t : ℕ) → 0 < j → j < kind_count → t < 2 → held j t ≤ sum_most
+summed_most held kind e h small zero t p l m = absurd (omega arith)
+summed_most held kind e h small (suc j) t p l m =
+    ltb_cases j total_count (λ _. held (suc j) t ≤ sum_most)
+    (λ b. omega (arith, h.total j t b m, total_most_lem kind e small (suc j) t))
+    (λ b. omega (arith, h.others (suc j) t (omega arith) l m, held_most (alone (class_of (suc j))) (λ k. eqb (kind k) (suc j)) e small t case_count))
+
+pub sums_in_range : (sums : List (List ℕ)) (kind : ℕ → ℕ) (e : ℕ → ℤ) → Summed (held_at sums) kind e → ((k : ℕ) → nat_abs (e k) ≤ effect_most) → SumsInRange sums
+sums_in_range sums kind e h small = record { each = summed_most (held_at sums) kind e h small }
 
 -- ---- the sets of the cases below k
 pub record PlacesTo (places : List ℕ) (kind : ℕ → ℕ) (k : ℕ) : Type 0 where

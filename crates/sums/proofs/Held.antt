@@ -1,6 +1,6 @@
 -- What the cases of a kind make: none make nothing, one that is no member leaves it, and a member joins it; there is room for each.
 -- Assumes nothing.
-use Prim.Native.Nat.{ℕ, zero, suc, ◌+◌, ◌*◌, ◌<◌, ◌≤◌, max}
+use Prim.Native.Nat.{ℕ, zero, suc, ◌+◌, ◌*◌, ◌<◌, ◌≤◌, ◌^◌, max}
 use native.Mathlib.Omega.{arith}
 use mathlib.Core.Bool.{Bool, true, false, cond, false≢true}
 use mathlib.Core.Path.{◌≡◌, refl, sym, ap, ◌∙◌}
@@ -13,7 +13,7 @@ use Rattle.integers.proofs.Sums as SumL
 use Rattle.standard.specs.Combination.{case_count}
 use Rattle.envelope.specs.Range.{effect_most}
 use Rattle.sums.specs.declared.Sides.{Sides}
-use Rattle.sums.specs.Sums.{part_of, joined_by, held_by, among, sides_by, sides_in, sides_with, nothing, sum_most, SidesInRange, SidesAtMost, SidesRoom}
+use Rattle.sums.specs.Sums.{part_of, joined_by, held_by, among, sides_by, split_of, sides_in, sides_with, nothing, sum_most, SidesInRange, SidesAtMost, SidesRoom}
 
 -- ---- what is held
 held_none : (t : Bool) (g : ℕ → ℕ) → 0 ≡ held_by t 0 g
@@ -43,6 +43,16 @@ part_le (suc t) x = omega (arith, abs_parts x)
 -- a number below zero gives back its size
 down_back : (n : ℕ) → down (neg_ℤ (pos n)) ≡ n
 down_back n = neg_down (pos n)
+
+-- ---- a total
+pub split_in_range : (total : ℤ) → nat_abs total < 2 ^ 63 → SidesInRange (split_of total)
+split_in_range total l =
+    record {
+      above = refl;
+      below = ap (λ (m : ℕ). neg_ℤ (pos m)) (sym (down_back (down total)));
+      above_fits = omega (arith, abs_parts total);
+      below_fits = omega (arith, abs_parts total, abs_negated (pos (down total)));
+    }
 
 -- ---- the greatest above zero, and the least below
 pub greatest : (a b : ℤ) → a ≡ pos (up a) → int_max a b ≡ pos (max (up a) (up b))

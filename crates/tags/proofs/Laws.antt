@@ -8,6 +8,7 @@ use mathlib.Core.List.{List, [], ◌∷◌}
 use mathlib.Core.Logic.{⊎_elim, ◌⊎◌, inl, inr}
 use lib.ListN.{get_or}
 use borrow.Author.Tests.{ne_eqb}
+use Rattle.integers.proofs.Tests.{past}
 use Rattle.wire.proofs.Cases.{both, eq_or_ne}
 use Rattle.headers.specs.Headers.{name_number}
 use Rattle.wire.specs.Bytes.{byte_at, word_at, signed16}
@@ -95,3 +96,13 @@ module _ (P : Answered → Type 0) (s : Sheet) (tag : ℕ) (b : List ℕ) where
 -- a known tag is 60, or one of 01 to 09
 pub known : (tag : ℕ) → unknown_tag tag ≡ false → (tag ≡ name_number) ⊎ ((0 < tag) × (tag ≤ 9))
 known tag e = ⊎_elim inl (λ ne. inr (inside tag 9 (rw (ne_eqb tag name_number ne) at e))) (eq_or_ne tag name_number)
+
+-- the arm of the match that is left
+pub last_tag_lem : (tag : ℕ) → unknown_tag tag ≡ false → (tag ≡ 1 → ⊥) → (tag ≡ 2 → ⊥) → (tag ≡ 3 → ⊥) → (tag ≡ 4 → ⊥) → (tag ≡ 5 → ⊥) → (tag ≡ 6 → ⊥) → (tag ≡ 7 → ⊥) → (tag ≡ 8 → ⊥) →
+    (tag ≡ name_number → ⊥) → tag ≡ 9
+last_tag_lem tag e n1 n2 n3 n4 n5 n6 n7 n8 name =
+    ⊎_elim (λ n. absurd (name n))
+    (λ k. within k.1 (past 8 (past 7 (past 6 (past 5 (past 4 (past 3 (past 2 (past 1 k.0 n1) n2) n3) n4) n5) n6) n7) n8)) (known tag e)
+  where
+    within : tag ≤ 9 → 9 ≤ tag → tag ≡ 9
+    within a b = omega arith

@@ -1,12 +1,13 @@
 -- Runs of stores: how they join, and what stands at an index after one.
 -- Assumes nothing.
 use Prim.Native.Nat.{ℕ, zero, suc, ◌+◌, ◌≤◌, ◌<◌}
-use mathlib.Core.Path.{◌≡◌, refl, ap, ◌∙◌}
+use mathlib.Core.Path.{◌≡◌, refl, sym, ap, ◌∙◌}
 use mathlib.Core.List.{List, [], ◌∷◌, ◌++◌}
-use native.Mathlib.Nat.{add-zero, zero-add}
+use native.Mathlib.Numerals.{add-one}
+use native.Mathlib.Nat.{add-zero, zero-add, le_of_lt}
 use native.Mathlib.Omega.{arith}
-use lib.ListN.{length, get_or, set, drop, replicate, length-set}
-use lib.Seq.{sets, sets-eq, length-sets, get_or-set_other, get_or-set_same}
+use lib.ListN.{length, get_or, set, take, drop, replicate, length-set, length-append}
+use lib.Seq.{sets, sets-eq, length-sets, take-suc, length-take-le, get_or-set_other, get_or-set_same}
 use Rattle.wire.specs.Bytes.{over, Put}
 
 module _ {A : Type 0} where
@@ -23,6 +24,13 @@ module _ {A : Type 0} where
   sets_append (v ∷ vs) ws l i =
       let e : i + suc (length vs) ≡ suc i + length vs = omega arith in
       rw e (sets_append vs ws (set l i v) (suc i))
+
+  -- one more element of a copy
+  pub sets_more : (o b : List A) (i k : ℕ) (d : A) → k < length b → set (sets o i (take k b)) (i + k) (get_or b k d) ≡ sets o i (take (k + 1) b)
+  sets_more o b i k d h =
+      let l : length (take k b) ≡ k = length-take-le k b (le_of_lt h) in
+      let p : set (sets o i (take k b)) (i + length (take k b)) (get_or b k d) ≡ sets o i (take k b ++ (get_or b k d ∷ [])) = sets_append (take k b) (get_or b k d ∷ []) o i in
+      (rw l at p) ∙ ap (sets o i) (sym (take-suc b k d h) ∙ ap (λ (n : ℕ). take n b) (sym (add-one k)))
 
   -- what holds of the element at j, and of all that is stored, holds of the element at j afterwards
   pub set_keep : (P : A → Type 0) (d : A) (l : List A) (i : ℕ) (v : A) (j : ℕ) → P (get_or l j d) → P v → P (get_or (set l i v) j d)
@@ -67,8 +75,15 @@ module _ {A : Type 0} where
   replicate_all P d a h p (suc n) zero = p
   replicate_all P d a h p (suc n) (suc i) = replicate_all P d a h p n i
 
+pub put_none : (o : List ℕ) (i : ℕ) → Put o i [] i o
+put_none o i = (omega arith, refl)
+
 pub put_long : (w o : List ℕ) (i : ℕ) {to : ℕ} {out : List ℕ} → Put o i w to out → length out ≡ length o
 put_long w o i p = ap length p.1 ∙ length-sets o i w
+
+-- one run after another
+pub put_two : (v w o : List ℕ) (i : ℕ) {o₁ o₂ : List ℕ} {j e : ℕ} → Put o i v j o₁ → Put o₁ j w e o₂ → Put o i (v ++ w) e o₂
+put_two v w o i p q = (rw length-append (omega arith), q.1 ∙ rw (p.0, p.1) (sets_append v w o i))
 
 pub front : (w o : List ℕ) → length w ≤ length o → sets o 0 w ≡ over w o
 unfolding over
