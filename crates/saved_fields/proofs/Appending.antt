@@ -1,7 +1,7 @@
 -- What is saved of a place and of a station, by what they hold, and one run of bytes more.
 -- Assumes nothing.
 use Prim.Native.Nat.{ℕ, ◌+◌, ◌≤◌}
-use mathlib.Core.Path.{◌≡◌, refl}
+use mathlib.Core.Path.{◌≡◌}
 use mathlib.Core.List.{List, [], ◌++◌}
 use mathlib.Core.Bool.{◌&&◌}
 use native.Mathlib.Numerals.{add-one}
