@@ -27,6 +27,13 @@ impl Pause {
         }
     }
 
+    // Of so many nanoseconds, or the longest.
+    pub fn of(nanoseconds: u32) -> Pause {
+        Pause {
+            time: Duration::from_nanos(u64::from(nanoseconds)).min(Duration::from_micros(LONGEST)),
+        }
+    }
+
     pub fn longer(self) -> Pause {
         Pause {
             time: (self.time * 2).min(Duration::from_micros(LONGEST)),
