@@ -65,7 +65,7 @@ fn answered(sheet: &mut Sheet, state: &[u8], input: &[u8], output: &mut [u8]) ->
     if let Some(number) = refusal {
         return Err(number);
     }
-    Ok(loading::read_all(sheet, input, output))
+    Ok(loading::read_all(sheet, input, output).written)
 }
 
 // Answers the fields of the input, one after the other, on the sheet that the state gives. Nothing is saved.

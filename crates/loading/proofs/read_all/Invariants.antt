@@ -4,7 +4,7 @@ use Rattle.loading.proofs.Lists.{Going}
 use Rattle.loading.proofs.read_all.Given as goal
 
 abbrev pub invariant-loop-left : goal.invariant-loop-left
-invariant-loop-left l = Going l.input l.left l.initial.sheet l.sheet l.initial.output l.output l.written
+invariant-loop-left l = Going l.input l.left l.initial.sheet l.sheet l.initial.output l.output l.written l.first
 
 abbrev pub decreases-loop-left : goal.decreases-loop-left
 decreases-loop-left l = length l.left
