@@ -1,7 +1,7 @@
 -- The loop over a list of fields whose answers are written one over the other: the sheet, the first refusal, and the output.
 -- Assumes nothing.
 use Prim.Native.Nat.{ℕ, ◌≤◌}
-use mathlib.Core.Path.{◌≡◌, refl, sym, ◌∙◌, ap}
+use mathlib.Core.Path.{◌≡◌, refl, sym, ◌∙◌}
 use mathlib.Core.List.{List, [], ◌∷◌}
 use lib.ListN.{length}
 use Rattle.std.specs.Prelude.{Option, None}
@@ -12,7 +12,8 @@ use Rattle.fields.specs.declared.Reading.{Reading}
 use Rattle.fields.specs.Field.{read_field}
 use Rattle.fields.specs.Readings.{FieldRead}
 use Rattle.fields.proofs.Kept.{read_kept}
-use Rattle.fields.proofs.Consumed.{same_with_room}
+use Rattle.headers.proofs.Whole.{part_from}
+use Rattle.lists.proofs.Placed.{read_put}
 use Rattle.answers.specs.Answers.{answer_room}
 use Rattle.lists.specs.Lists.{fields_of, sheet_after, answers_to}
 use Rattle.loading.specs.Loaded.{refusal_of, first_refusal, overlaid}
@@ -33,10 +34,10 @@ module _ {input : List ℕ} {left : List (List ℕ)} {start s : Sheet} {o₀ o :
   pub going_next : {field : List ℕ} {rest : List (List ℕ)} → left ≡ field ∷ rest → {o' : List ℕ} {r : Reading} {later : Option ℕ} →
       FieldRead field o s r o' → length o' ≡ length o → later ≡ option_or earlier (refusal_of r.answer) → Going input start o₀ rest r.sheet o' later
   unfolding sheet_after answers_to first_refusal overlaid
-  going_next {field} {rest} e {r = r} x n l =
-      let y : r ≡ read_field field answer_room s = x.reading ∙ same_with_room field s (length o) h.room in
-      let a = ap (λ (z : Reading). z.answer) y in
-      let t = ap (λ (z : Reading). z.sheet) y in
+  going_next {field} {rest} e {o'} {r = r} x n l =
+      let p = read_put field o 0 s {r = r} {part = o'} h.room (rw (part_from o 0) x) in
+      let a = p.answer in
+      let t = p.sheet in
       record {
         sheet = rw t (rw e at h.sheet);
         refusal = rw (t, l, a) (or_assoc earlier (refusal_of (read_field field answer_room s).answer) (first_refusal (answers_to rest (read_field field answer_room s).sheet)) ∙ (rw e at h.refusal));

@@ -8,7 +8,7 @@ returns-in-Restart c =
 
 pub returns-in-Fill : goal.returns-in-Fill
 returns-in-Fill c =
-    rw c.in-Fill.is (fill_arm _ _ c.byte-first.ensures c.byte-second.ensures (c.fill_in.ensures c.requires))
+    rw c.in-Fill.is (fill_arm _ _ c.byte-first.ensures c.byte-second.ensures (c.fill_in.ensures.filled c.requires))
 
 pub returns-in-Effects : goal.returns-in-Effects
 returns-in-Effects c =
