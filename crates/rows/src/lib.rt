@@ -4,15 +4,17 @@
 ghost use Rattle.std.specs.Prelude.{◌≡◌, ◌<◌};
 ghost use Rattle.standard.specs.Kinds.{number_of};
 ghost use Rattle.standard.specs.Rows.{row_count, straining_in, factor_of};
-ghost use Rattle.standard.specs.Columns.{entries_in, kinds_in};
+ghost use Rattle.standard.specs.Columns.{entries_in, row_table, kinds_in};
 
 use standard::{Kind, ROWS, Settings};
 
 const COLUMNS: usize = 12;
 
+pub type RowTable = [[u16; COLUMNS]; ROWS];
+
 // Rows by number; the columns are D, F, H, L, L with live option 1, roof, S, W, E, Fa, Di, Wi.
 // Stays: numbers by row and column, since one constant table by row number is a rule of the project.
-static LINES: [[u16; COLUMNS]; ROWS] = [
+static LINES: RowTable = [
     [0, 0, 0, 0, 0, 0, 0, 0, 0, 0, 0, 0],
     [1400, 1400, 0, 0, 0, 0, 0, 0, 0, 0, 0, 0],
     [1200, 1200, 1600, 1600, 1600, 500, 500, 0, 0, 0, 0, 0],
@@ -76,6 +78,13 @@ fn straining_in(s: Settings, row: u8) -> u16
         1 | 21 => 0,
         _ => s.straining,
     }
+}
+
+// The rows by number, for callers outside the repository: `factor` reads a line where it stands.
+pub fn row_table() -> RowTable
+    ensures { result ≡ row_table }
+{
+    LINES
 }
 
 // The factors of a row, by column.

@@ -1,5 +1,5 @@
 -- How the constant table holds the lines: nothing that a reader must believe, since `factor` is proved against `factor_of`.
-use Rattle.std.specs.Prelude.{ℕ, true, false, List, [], ◌∷◌, get_or, ltb}
+use Rattle.std.specs.Prelude.{ℕ, true, false, List, [], ◌∷◌, map, get_or, ltb}
 use Rattle.integers.specs.Sums.{mask_of}
 use Rattle.standard.specs.Kinds.{kind_count}
 use Rattle.standard.specs.Rows.{Line, lines, blank, live_factor, roof_factor, snow_factor, fresh_settings, factor_of}
@@ -13,6 +13,9 @@ entries l =
     ∷ l.wind ∷ l.quake ∷ l.flood
     ∷ l.ice ∷ l.icewind
     ∷ []
+
+unfoldable pub row_table : List (List ℕ)
+row_table = map entries lines
 
 -- of a row by its number
 unfoldable pub entries_in : ℕ → List ℕ
