@@ -103,9 +103,13 @@ pub record KindPut (before after : ℕ → ℕ → ℕ) (j : ℕ) (s : Sides) : 
   pub below : after j 1 ≡ down s.below
   pub others : (i t : ℕ) → (i ≡ j → ⊥) → after i t ≡ before i t
 
--- whether what the F cases make on the side of a sign is more than on the other
+-- whether what the F cases make on one side is more than on another
+abbrev pub fluid_between : (ℕ → ℕ → ℕ) → (above below : ℕ) → Bool
+fluid_between held above below = ltb (held fluid below) (held fluid above)
+
+-- on the side of a sign, more than on the other
 abbrev pub fluid_acts : (ℕ → ℕ → ℕ) → Sign → Bool
-fluid_acts held sign = ltb (held fluid (under sign)) (held fluid (over sign))
+fluid_acts held sign = fluid_between held (over sign) (under sign)
 
 -- The sums of the kinds below m. Of D and F the sides of a total are held, since all their cases act or none; the total is given. Of the
 -- others the sums come from the sets of the cases of each kind.

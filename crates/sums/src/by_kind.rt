@@ -1,7 +1,7 @@
 ghost use Rattle.std.specs.Prelude.{◌≡◌, ℕ, ◌<◌, ◌+ℤ◌, pos, neg_ℤ};
 ghost use Rattle.standard.specs.Kinds.{kind_count, number_of};
 ghost use Rattle.envelope.specs.Signs.{over, under};
-ghost use Rattle.sums.specs.Sums.{SidesInRange, SidesAtMost, sum_most, held_at, SumsInRange, KindPut, fluid_acts};
+ghost use Rattle.sums.specs.Sums.{SidesInRange, SidesAtMost, sum_most, held_at, SumsInRange, KindPut, fluid_between, fluid_acts};
 
 use crate::Sides;
 use envelope::Sign;
@@ -53,4 +53,13 @@ impl Sums {
     {
         self.held(Kind::Fluid, sign.opposite()) < self.held(Kind::Fluid, sign)
     }
+}
+
+// The same of any numbers by kind, in range or not, and of any two sides by their numbers.
+pub fn fluid_acts(by_kind: &[[u64; 2]; KINDS], above: usize, below: usize) -> bool
+    requires { (above < 2) × (below < 2) }
+    ensures { result ≡ fluid_between (held_at by_kind.now) above below }
+{
+    let fluid = by_kind[Kind::Fluid as usize];
+    fluid[below] < fluid[above]
 }

@@ -12,7 +12,7 @@ ghost use Rattle.sums.specs.Directions.{held_in};
 
 mod by_kind;
 
-pub use by_kind::Sums;
+pub use by_kind::{Sums, fluid_acts};
 use envelope::{CasesByKind, StationEffects};
 use integers::Members;
 use standard::{KINDS, Kind};
