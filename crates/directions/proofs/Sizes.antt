@@ -1,16 +1,17 @@
 -- The sizes of the directions.
 -- Assumes nothing.
-use Prim.Native.Nat.{ℕ, zero, suc, ◌+◌, ◌*◌, ◌≤◌}
+use Prim.Native.Nat.{ℕ, zero, suc, ◌+◌, ◌*◌, ◌-◌, ◌<◌, ◌≤◌}
 use native.Mathlib.Nat.{mul-le-mul}
 use native.Mathlib.Omega.{arith}
-use mathlib.Core.Bool.{Bool, true, false}
+use mathlib.Core.Bool.{Bool, true, false, cond}
 use mathlib.Core.Path.{◌≡◌, refl}
 use lib.IntN.{ℤ, ◌+ℤ◌, ◌*ℤ◌, nat_abs}
 use Rattle.integers.proofs.Signs.{abs_add, abs_mul, abs_negated}
+use Rattle.integers.proofs.Sums.{ltb_cases}
 use Rattle.envelope.specs.declared.Weights.{Weights}
 use Rattle.envelope.specs.Range.{effect_limit, effect_most, weight_most, WeightsInRange}
 use Rattle.envelope.specs.Directions.{turned, signs_by}
-use Rattle.directions.specs.Four.{directed}
+use Rattle.directions.specs.Four.{directed, direction_of}
 
 turned_size : (t : Bool) (x : ℤ) → nat_abs (turned t x) ≡ nat_abs x
 turned_size true x = abs_negated x
@@ -43,3 +44,7 @@ module _ (w : Weights) (r : WeightsInRange w) (effect : ℕ → ℕ → ℤ) (m 
 
 pub directed_most : (w : Weights) → WeightsInRange w → (effect : ℕ → ℕ → ℤ) → ((k c : ℕ) → nat_abs (effect k c) ≤ effect_limit) → (d k : ℕ) → nat_abs (directed w effect d k) ≤ effect_most
 directed_most w r effect small d k = omega (arith, directed_size w r effect effect_limit k (small k) d)
+
+-- eight patterns have four directions
+pub below_four : (i : ℕ) → i < 8 → direction_of i < 4
+below_four i l = ltb_cases i 4 (λ t. cond t i (7 - i) < 4) (λ m. m) (λ m. omega arith)

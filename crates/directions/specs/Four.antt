@@ -4,7 +4,7 @@ use Rattle.envelope.specs.declared.Sign.{Sign}
 use Rattle.envelope.specs.declared.Sign.TheVariants.{Plus, Minus}
 use Rattle.envelope.specs.declared.Weights.{Weights}
 use Rattle.envelope.specs.Directions.{signs_by}
-use Rattle.sums.specs.Sums.{fluid_acts, SumsOf}
+use Rattle.sums.specs.Sums.{held_at, fluid_acts, SumsOf}
 
 abbrev pub directions_of : ℤ → ℤ → ℤ → List ℤ
 directions_of a b c = signs_by false false a b c ∷ signs_by true false a b c ∷ signs_by false true a b c ∷ signs_by true true a b c ∷ []
@@ -23,6 +23,10 @@ direction_of i = cond (ltb i 4) i (7 - i)
 
 abbrev pub sign_of : ℕ → Sign
 sign_of i = cond (ltb i 4) Plus Minus
+
+-- of any numbers by direction and kind, what is held in direction d
+abbrev pub held_along : List (List (List ℕ)) → ℕ → (ℕ → ℕ → ℕ)
+held_along numbers d = held_at (get_or numbers d [])
 
 -- by pattern of signs, what the sums of its direction say
 abbrev pub eight_by : {A : Type 0} → ((ℕ → ℕ → ℕ) → Sign → A) → (held : ℕ → ℕ → ℕ → ℕ) → ℕ → A

@@ -4,12 +4,13 @@ ghost use Rattle.std.specs.Prelude.{◌≡◌, ◌+◌, ◌<◌, ◌≤◌, ◌^
 ghost use Rattle.standard.specs.Kinds.{kind_count};
 ghost use Rattle.envelope.specs.Range.{effect_of, total_at, total_most, WeightsInRange};
 ghost use Rattle.sums.specs.Directions.{held_in};
-ghost use Rattle.directions.specs.Four.{directions_of, directed, direction_of, sign_of, FourOf, fluid_in};
+ghost use Rattle.directions.specs.Four.{directions_of, directed, direction_of, sign_of, FourOf, held_along, fluid_in};
 
 mod reading;
 
 use envelope::{Sign, Station, Weights};
 pub use reading::FourDirections;
+use standard::KINDS;
 use sums::Sums;
 
 // The sums of each kind in the four directions, for both signs of each: from the totals of D and F, and from one pass over the cases
@@ -46,4 +47,16 @@ pub fn fluid_in(sums: &[Sums; 4], pattern: usize) -> bool
 {
     let (direction, sign) = way_of(pattern);
     sums[direction].fluid_acts(sign)
+}
+
+// The same of any numbers by direction and kind, in range or not.
+pub fn fluid_in_numbers(numbers: &[[[u64; 2]; KINDS]; 4], pattern: usize) -> bool
+    requires { pattern < 8 }
+    ensures { result ≡ fluid_in (held_along numbers.now) pattern }
+{
+    let (direction, sign) = way_of(pattern);
+    match sign {
+        Sign::Plus => sums::fluid_acts(&numbers[direction], 0, 1),
+        Sign::Minus => sums::fluid_acts(&numbers[direction], 1, 0),
+    }
 }

@@ -1,17 +1,12 @@
 -- The sums of the direction, with its sign.
-use Prim.Native.Nat.{ℕ, ◌-◌, ◌<◌}
+use Prim.Native.Nat.{ℕ}
 use native.Mathlib.Omega.{arith}
-use mathlib.Core.Bool.{cond}
 use mathlib.Core.Path.{◌∙◌, sym, ap}
-use Rattle.integers.proofs.Sums.{ltb_cases}
 use Rattle.sums.specs.Sums.{fluid_acts}
 use Rattle.sums.specs.Directions.{held_in}
 use Rattle.sums.proofs.Arrays.{held_got}
-use Rattle.directions.specs.Four.{direction_of}
+use Rattle.directions.proofs.Sizes.{below_four}
 use Rattle.directions.proofs.fluid_in.Goals as goal
-
-below_four : (i : ℕ) → i < 8 → direction_of i < 4
-below_four i l = ltb_cases i 4 (λ t. cond t i (7 - i) < 4) (λ m. m) (λ m. omega arith)
 
 pub returns : goal.returns
 returns c =
