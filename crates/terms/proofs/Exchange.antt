@@ -23,7 +23,7 @@ use Rattle.envelope.specs.declared.Sign.{Sign}
 use Rattle.envelope.specs.declared.Sign.TheVariants.{Plus, Minus}
 use Rattle.envelope.specs.Range.{effect_most}
 use Rattle.sums.specs.Sums.{part_of, of_kind, alone, held_by, held_of, total_count, fluid_acts, Summed}
-use Rattle.terms.specs.Value.{terms_by, terms_of, TermsInRange, value_of}
+use Rattle.terms.specs.Value.{terms_by, terms_between, terms_of, TermsInRange, value_of}
 use Rattle.terms.proofs.Lines.{by_group, excess, gain_by, loss_by, by_terms}
 use Rattle.sums.proofs.Held.{held_le, held_most, part_le}
 use Rattle.sums.proofs.Totals.{total_negated}
@@ -348,6 +348,12 @@ small_terms u d m hu hd l =
       snow_up = refl;
     }
 
+-- of the effects with a sign, from any two sides
+pub with_sign : (held : ℕ → ℕ → ℕ) → ((above below : ℕ) → above < 2 → below < 2 → TermsInRange (terms_between held above below)) →
+    (sign : Sign) → TermsInRange (terms_of held sign)
+with_sign held h Plus = h 0 1 (omega arith) (omega arith)
+with_sign held h Minus = h 1 0 (omega arith) (omega arith)
+
 -- a total is within what its parts make
 total_within : (kind : ℕ → ℕ) (e : ℕ → ℤ) (j t : ℕ) → part_of t (total_of kind e j) ≤ sum case_count (of_kind kind (λ k. part_of t (e k)) j)
 unfolding total_of
@@ -370,6 +376,9 @@ module _ (held : ℕ → ℕ → ℕ) (kind : ℕ → ℕ) (e : ℕ → ℤ) (be
   side : (t : ℕ) → t < 2 → let u : ℕ → ℕ = λ j. held j t in u 1 + u 2 + u 3 + u 4 + u 5 + u 6 + u 7 + u 8 + u 9 + u 10 + u 11 + u 12 + u 13 + u 14 ≤ case_count * effect_most
   side t m = held_total case_count kind (λ k. part_of t (e k)) below (λ k. omega (arith, part_le t (e k), small k)) (λ j. held j t) (within t m)
 
-  pub terms_in_range : (sign : Sign) → TermsInRange (terms_of held sign)
-  terms_in_range Plus = small_terms (λ j. held j 0) (λ j. held j 1) (case_count * effect_most) (side 0 (omega arith)) (side 1 (omega arith)) (omega arith)
-  terms_in_range Minus = small_terms (λ j. held j 1) (λ j. held j 0) (case_count * effect_most) (side 1 (omega arith)) (side 0 (omega arith)) (omega arith)
+  pub terms_in_range : (above below : ℕ) → above < 2 → below < 2 → TermsInRange (terms_between held above below)
+  terms_in_range above below a b =
+      small_terms (λ j. held j above) (λ j. held j below) (case_count * effect_most) (side above a) (side below b) (omega arith)
+
+  pub signed_terms_in_range : (sign : Sign) → TermsInRange (terms_of held sign)
+  signed_terms_in_range = with_sign held terms_in_range

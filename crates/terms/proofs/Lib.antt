@@ -1,3 +1,4 @@
 pub mod Scaled
 pub mod Lines
+pub mod Read
 pub mod Exchange

@@ -28,9 +28,13 @@ terms_by u d =
       icewind = pos (u 13);
     }
 
--- from what is held of each kind on each side: of the effects with a sign
+-- from what is held of each kind on each side: on any two
+abbrev pub terms_between : (ℕ → ℕ → ℕ) → (above below : ℕ) → Terms
+terms_between held above below = terms_by (λ j. held j above) (λ j. held j below)
+
+-- of the effects with a sign
 abbrev pub terms_of : (ℕ → ℕ → ℕ) → Sign → Terms
-terms_of held sign = terms_by (λ j. held j (over sign)) (λ j. held j (under sign))
+terms_of held sign = terms_between held (over sign) (under sign)
 
 -- the sizes of the terms, all together: each case is counted once on each side
 abbrev pub singles_size : Terms → ℕ

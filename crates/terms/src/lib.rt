@@ -5,8 +5,9 @@ ghost use Rattle.standard.specs.Kinds.{kind_count, number_of};
 ghost use Rattle.standard.specs.Range.{SettingsInRange};
 ghost use Rattle.standard.specs.Rows.{row_count, factor_of};
 ghost use Rattle.optimum.specs.Row.{lower_of};
+ghost use Rattle.envelope.specs.Signs.{over};
 ghost use Rattle.sums.specs.Sums.{held_at};
-ghost use Rattle.terms.specs.Value.{factor_most, Gained, terms_of, TermsInRange, own_of, singles_size, singles_of, value_of};
+ghost use Rattle.terms.specs.Value.{factor_most, Gained, terms_between, terms_of, TermsInRange, own_of, singles_size, singles_of, value_of};
 
 use envelope::Sign;
 use standard::{Kind, Settings};
@@ -51,6 +52,25 @@ pub fn terms_of(sums: &Sums, sign: Sign) -> Terms
         flood: sums.held(Kind::Flood, sign),
         ice: sums.held(Kind::Ice, sign),
         icewind: sums.held(Kind::WindOnIce, sign),
+    }
+}
+
+// What is held of a kind on one side, less what is held on another.
+fn excess(sums: &Sums, kind: Kind, above: Sign, below: Sign) -> i64
+    ensures { let held = held_at sums.now.by_kind (number_of kind) in result ≡ pos (held (over above)) +ℤ neg_ℤ (pos (held (over below))) }
+{
+    sums.held(kind, above) - sums.held(kind, below)
+}
+
+// The terms from any two sides, each that of a sign: three terms have a part below zero.
+pub fn terms_between(sums: &Sums, above: Sign, below: Sign) -> Terms
+    ensures { result ≡ terms_between (held_at sums.now.by_kind) (over above) (over below) }
+{
+    Terms {
+        dead: excess(sums, Kind::Dead, above, below),
+        fluid: excess(sums, Kind::Fluid, above, below).max(0),
+        lowered: -sums.held(Kind::EarthPermanent, below),
+        ..terms_of(sums, above)
     }
 }
 

@@ -2,8 +2,7 @@
 use Prim.Native.Nat.{ℕ, ◌+◌, ◌<◌, ◌≤◌, ◌^◌}
 use native.Mathlib.Omega.{arith}
 use mathlib.Core.Path.{◌≡◌, refl, ◌∙◌, ap}
-use lib.IntN.{ℤ, pos, negsuc, neg_ℤ, ◌+ℤ◌, nat_abs}
-use lib.Signed.{mag}
+use lib.IntN.{ℤ, pos, neg_ℤ, ◌+ℤ◌, nat_abs}
 use mir.Syntax.{w64}
 use mir.Val.{to_z, of_z}
 use Rattle.std.specs.Int.{int_max}
@@ -16,26 +15,13 @@ use Rattle.envelope.specs.Signs.{over, under, opposite}
 use Rattle.sums.specs.Sums.{held_at, sum_most}
 use Rattle.sums.proofs.Held.{greatest}
 use Rattle.terms.specs.Value.{terms_by}
+use Rattle.terms.proofs.Read.{back, above_zero, side}
 use Rattle.terms.proofs.terms_of.Goals as goal
-
--- a call's number, as the machine reads it back
-back : {r z : ℤ} → mag r < 2 ^ 63 → r ≡ z → to_z w64 (of_z w64 r) ≡ z
-back {r} h e = read r h ∙ e
-
--- no less than zero
-above_zero : (z : ℤ) → int_max z (pos 0) ≡ pos (up z)
-above_zero (pos n) = greatest (pos n) (pos 0) refl ∙ ap pos (omega arith)
-above_zero (negsuc n) = refl
 
 -- what is below zero with a sign is what is above with the opposite
 other : (sign : Sign) → over (opposite sign) ≡ under sign
 other Plus = refl
 other Minus = refl
-
--- a sign has one of two sides
-side : (sign : Sign) → over sign < 2
-side Plus = omega arith
-side Minus = omega arith
 
 pub returns : goal.returns
 unfolding terms_by
