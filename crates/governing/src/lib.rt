@@ -4,10 +4,11 @@ ghost use Rattle.std.specs.Prelude.{◌≡◌, ℕ, ◌<◌, ◌≤◌};
 ghost use Rattle.standard.specs.Range.{SettingsInRange};
 ghost use Rattle.standard.specs.Rows.{row_count, rows_to, by_zone, by_ice};
 ghost use Rattle.envelope.specs.Envelope.{best_at, better_by, best_in, best_among, best_of, higher_by, peak_of};
+ghost use Rattle.envelope.specs.Signs.{over};
 ghost use Rattle.sums.specs.Sums.{held_at};
 ghost use Rattle.sums.specs.Directions.{held_in};
 ghost use Rattle.terms.specs.Value.{TermsInRange, value_of};
-ghost use Rattle.governing.specs.Ways.{toward_of, Ready, eight_of};
+ghost use Rattle.governing.specs.Ways.{toward_between, toward_of, Ready, eight_of};
 
 use envelope::{Best, Peak, Sign};
 use standard::Settings;
@@ -151,6 +152,18 @@ impl OpenRows {
         let look = Look {
             rows: self,
             terms: terms::terms_of(sums, sign),
+        };
+        look.governing()
+    }
+
+    // The row that governs what is held on any two sides, each that of a sign.
+    pub fn toward_between(self, sums: &Sums, above: Sign, below: Sign) -> Best
+        requires { Ready (held_at sums.now.by_kind) }
+        ensures { result ≡ toward_between self.settings (held_at sums.now.by_kind) (over above) (over below) }
+    {
+        let look = Look {
+            rows: self,
+            terms: terms::terms_between(sums, above, below),
         };
         look.governing()
     }

@@ -1,20 +1,15 @@
 -- Pattern after pattern.
 use Prim.Native.Nat.{ℕ, ◌-◌, ◌<◌}
 use native.Mathlib.Omega.{arith}
-use mathlib.Core.Bool.{cond}
 use mathlib.Core.Path.{◌≡◌, ◌∙◌, sym, ap, subst}
-use Rattle.integers.proofs.Sums.{ltb_cases}
 use Rattle.envelope.specs.declared.Sign.TheVariants.{Plus}
 use Rattle.envelope.specs.Envelope.{peak_of}
 use Rattle.sums.specs.Directions.{held_in}
 use Rattle.sums.proofs.Arrays.{held_got}
-use Rattle.directions.specs.Four.{direction_of}
+use Rattle.directions.proofs.Sizes.{below_four}
 use Rattle.governing.specs.Ways.{toward_of, Ready, eight_of}
 use Rattle.governing.proofs.Peaks.{peak_first, peak_next}
 use Rattle.governing.proofs.OpenRows.highest.Goals as goal
-
-below_four : (i : ℕ) → i < 8 → direction_of i < 4
-below_four i l = ltb_cases i 4 (λ t. cond t i (7 - i) < 4) (λ m. m) (λ m. omega arith)
 
 pub toward-requires : goal.toward-requires
 toward-requires c =
