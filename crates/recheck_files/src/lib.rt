@@ -42,10 +42,7 @@ fn answers_agree(file: &[u8], left_out: LeftOut, answers: &[u8], others: &[u8]) 
 
 // Whether what remains of the file has the same answers to what remains and saves the same bytes, each run from a fresh sheet.
 fn runs_agree(file: &[u8], left_out: LeftOut, rest: &[u8]) -> bool {
-    let Some(whole) = Ran::of(file) else {
-        return false;
-    };
-    let Some(left) = Ran::of(rest) else {
+    let (Some(whole), Some(left)) = (Ran::of(file), Ran::of(rest)) else {
         return false;
     };
     answers_agree(file, left_out, whole.answers(), left.answers()) && whole.saves_as(&left)
