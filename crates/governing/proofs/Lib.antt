@@ -1,2 +1,3 @@
 pub mod Methods
 pub mod Peaks
+pub mod Ranges

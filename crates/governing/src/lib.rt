@@ -8,7 +8,7 @@ ghost use Rattle.envelope.specs.Signs.{over};
 ghost use Rattle.sums.specs.Sums.{held_at};
 ghost use Rattle.sums.specs.Directions.{held_in};
 ghost use Rattle.terms.specs.Value.{TermsInRange, value_of};
-ghost use Rattle.governing.specs.Ways.{toward_between, toward_of, Ready, eight_of};
+ghost use Rattle.governing.specs.Ways.{toward_between, toward_of, Ready, ReadyBetween, eight_of};
 
 use envelope::{Best, Peak, Sign};
 use standard::Settings;
@@ -158,7 +158,7 @@ impl OpenRows {
 
     // The row that governs what is held on any two sides, each that of a sign.
     pub fn toward_between(self, sums: &Sums, above: Sign, below: Sign) -> Best
-        requires { Ready (held_at sums.now.by_kind) }
+        requires { ReadyBetween (held_at sums.now.by_kind) }
         ensures { result ≡ toward_between self.settings (held_at sums.now.by_kind) (over above) (over below) }
     {
         let look = Look {

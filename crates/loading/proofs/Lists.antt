@@ -1,14 +1,12 @@
 -- The loop over a list of fields whose answers are kept one after the other.
 -- Assumes nothing.
 use Prim.Native.Nat.{ℕ, ◌+◌, ◌*◌, ◌≤◌, ◌<◌}
-use mathlib.Core.Path.{◌≡◌, refl, sym, ◌∙◌, ap}
+use mathlib.Core.Path.{◌≡◌, refl, ◌∙◌, ap}
 use mathlib.Core.List.{List, ◌∷◌, ◌++◌}
 use native.Mathlib.Nat.{mul-suc}
 use native.Mathlib.Omega.{arith}
 use lib.ListN.{length, drop, length-append}
 use lib.Seq.{sets, length-sets}
-use Rattle.std.specs.Prelude.{Option, None}
-use Rattle.std.specs.Option.{option_or}
 use Rattle.wire.specs.Bytes.{over}
 use Rattle.wire.proofs.Stores.{sets_append, front}
 use Rattle.sheet.specs.declared.Sheet.{Sheet}
@@ -23,31 +21,27 @@ use Rattle.lists.specs.Lists.{fields_of, sheet_after, answers_to, bytes_of}
 use Rattle.lists.proofs.Left.{no_bytes, first_field}
 use Rattle.lists.proofs.Joins.{answers_long}
 use Rattle.lists.proofs.Placed.{ReadAt}
-use Rattle.loading.specs.Loaded.{refusal_of, first_refusal}
-use Rattle.loading.proofs.Refusals.{or_assoc, or_none}
 
--- the fields of the bytes left lead where those of the input lead, with answers that have room; an earlier refusal comes before theirs
-pub record Going (input left : List ℕ) (s₀ s : Sheet) (o₀ o : List ℕ) (written : ℕ) (earlier : Option ℕ) : Type 0 where
+-- the fields of the bytes left lead where those of the input lead, with answers that have room
+pub record Going (input left : List ℕ) (s₀ s : Sheet) (o₀ o : List ℕ) (written : ℕ) : Type 0 where
   pub sheet : sheet_after (fields_of left) s ≡ sheet_after (fields_of input) s₀
   pub count : written + length (bytes_of (answers_to (fields_of left) s)) ≡ length (bytes_of (answers_to (fields_of input) s₀))
-  pub refusal : option_or earlier (first_refusal (answers_to (fields_of left) s)) ≡ first_refusal (answers_to (fields_of input) s₀)
   pub output : sets o written (bytes_of (answers_to (fields_of left) s)) ≡ sets o₀ 0 (bytes_of (answers_to (fields_of input) s₀))
   pub in_range : InRange s
   pub room : written + answer_room * length (fields_of left) ≤ length o
   pub long : length o ≡ length o₀
 
-pub going_start : (input : List ℕ) (s : Sheet) (o : List ℕ) → InRange s → answer_room * length (fields_of input) ≤ length o → Going input input s s o o 0 None
+pub going_start : (input : List ℕ) (s : Sheet) (o : List ℕ) → InRange s → answer_room * length (fields_of input) ≤ length o → Going input input s s o o 0
 going_start input s o h r = record {
   sheet = refl;
   count = omega arith;
-  refusal = refl;
   output = refl;
   in_range = h;
   room = omega arith;
   long = refl;
 }
 
-module _ {input left : List ℕ} {s₀ s : Sheet} {o₀ o : List ℕ} {written : ℕ} {earlier : Option ℕ} (h : Going input left s₀ s o₀ o written earlier) where
+module _ {input left : List ℕ} {s₀ s : Sheet} {o₀ o : List ℕ} {written : ℕ} (h : Going input left s₀ s o₀ o written) where
   module _ (g : 0 < length left) where
     -- the next answer has room
     pub going_room : written + answer_room ≤ length o
@@ -58,10 +52,9 @@ module _ {input left : List ℕ} {s₀ s : Sheet} {o₀ o : List ℕ} {written :
         let k : answer_room * length (fields_of left) ≡ answer_room * length (left ∷ fields_of (drop (consumed_by left) left)) = ap (λ (n : ℕ). answer_room * n) e in
         omega arith
 
-    pub going_next : {r : Reading} {o' : List ℕ} {later : Option ℕ} → ReadAt left s written o r o' → later ≡ option_or earlier (refusal_of r.answer) →
-        Going input (drop r.consumed left) s₀ r.sheet o₀ o' (written + r.written) later
-    unfolding sheet_after answers_to bytes_of first_refusal
-    going_next {r} {o'} x y =
+    pub going_next : {r : Reading} {o' : List ℕ} → ReadAt left s written o r o' → Going input (drop r.consumed left) s₀ r.sheet o₀ o' (written + r.written)
+    unfolding sheet_after answers_to bytes_of
+    going_next {r} {o'} x =
         let a = (read_field left answer_room s).answer in
         let next = (read_field left answer_room s).sheet in
         let rest = fields_of (drop (consumed_by left) left) in
@@ -79,7 +72,6 @@ module _ {input left : List ℕ} {s₀ s : Sheet} {o₀ o : List ℕ} {written :
         record {
           sheet = rw (x.consumed, x.sheet) (rw e at h.sheet);
           count = rw (x.consumed, x.sheet) (omega arith);
-          refusal = rw (x.consumed, x.sheet, y, x.answer) (or_assoc earlier (refusal_of a) (first_refusal (answers_to rest next)) ∙ (rw e at h.refusal));
           output = rw (x.consumed, x.sheet, x.written, x.output) (sets_append v w o written ∙ output);
           in_range = rw x.sheet (read_kept left answer_room s h.in_range);
           room = rw x.consumed (omega arith);
@@ -90,11 +82,10 @@ module _ {input left : List ℕ} {s₀ s : Sheet} {o₀ o : List ℕ} {written :
   pub record Ended : Type 0 where
     pub sheet : s ≡ sheet_after (fields_of input) s₀
     pub count : written ≡ length (bytes_of (answers_to (fields_of input) s₀))
-    pub refusal : earlier ≡ first_refusal (answers_to (fields_of input) s₀)
     pub output : o ≡ over (bytes_of (answers_to (fields_of input) s₀)) o₀
 
   pub going_end : answer_room * length (fields_of input) ≤ length o₀ → length left ≡ 0 → Ended
-  unfolding sheet_after answers_to bytes_of first_refusal
+  unfolding sheet_after answers_to bytes_of
   going_end r e =
       let n = no_bytes left e in
       let l = answers_long (fields_of input) s₀ in
@@ -103,6 +94,5 @@ module _ {input left : List ℕ} {s₀ s : Sheet} {o₀ o : List ℕ} {written :
       record {
         sheet = rw n at h.sheet;
         count = omega arith;
-        refusal = sym (or_none earlier) ∙ (rw n at h.refusal);
         output = (rw n at h.output) ∙ front (bytes_of (answers_to (fields_of input) s₀)) o₀ b;
       }

@@ -25,15 +25,20 @@ use Rattle.sums.proofs.Totals.{total_adds, total_scales, total_negated}
 use Rattle.directions.specs.Four.{directed, FourOf, eight_by, fluid_in}
 use Rattle.directions.proofs.Sizes.{directed_most}
 use Rattle.terms.proofs.Exchange.{value_is, negated_value_is, fluid_is, negated_fluid_is, sums_most, terms_in_range}
-use Rattle.governing.specs.Ways.{toward_of, eight_of}
-use Rattle.passes.specs.Passes.{BothWays, ServesBoth, ServesPatterns, ComponentPass, PatternPass}
+use Rattle.governing.specs.Ways.{ReadyBetween, toward_of, eight_of}
+use Rattle.governing.proofs.Ranges.{ready_of}
+use Rattle.passes.specs.Passes.{BothWays, ServesBoth, ServesPatterns, ComponentPass, PatternPass, ComponentReady, PatternsReady}
+
+pub ready_between : (held : ℕ → ℕ → ℕ) (kind : ℕ → ℕ) (e : ℕ → ℤ) → ((k : ℕ) → kind k < kind_count) → ((k : ℕ) → nat_abs (e k) ≤ effect_most) → Summed held kind e →
+    ReadyBetween held
+ready_between held kind e below small h = record { held_range = sums_most held kind e below h small; terms_range = terms_in_range held kind e below h small }
 
 pub serves_both : (held : ℕ → ℕ → ℕ) (kind : ℕ → ℕ) (e : ℕ → ℤ) → ((k : ℕ) → kind k < kind_count) → ((k : ℕ) → nat_abs (e k) ≤ effect_most) → Summed held kind e →
     ServesBoth held kind e
 unfolding governing_of
 serves_both held kind e below small h =
     record {
-      ready = record { held_range = sums_most held kind e below h small; terms_range = terms_in_range held kind e below h small };
+      ready = ready_of (ready_between held kind e below small h);
       governs = λ s. record {
         as_is = ap (best_of s) (λ i row. value_is held kind e below h s row i);
         turned = ap (best_of s) (λ i row. negated_value_is held kind e below h s row i);
@@ -45,6 +50,11 @@ pub component_served : (held : ℕ → ℕ → ℕ) (totals : ℕ → ℤ) (plac
     ComponentPass held totals places e
 component_served held totals places e small h =
     record { serves = λ kind below placed added. serves_both held kind e below small (summed held totals places kind e placed added h) }
+
+pub component_ready : (held : ℕ → ℕ → ℕ) (totals : ℕ → ℤ) (places : List ℕ) (e : ℕ → ℤ) → ((k : ℕ) → nat_abs (e k) ≤ effect_most) → SumsOf held totals places e kind_count →
+    ComponentReady held totals places e
+component_ready held totals places e small h =
+    record { ready = λ kind below placed added. ready_between held kind e below small (summed held totals places kind e placed added h) }
 
 -- ---- the patterns
 module _ (p : Capacities) (effect : ℕ → ℕ → ℤ) where
@@ -135,3 +145,13 @@ module _ (totals : ℕ → ℕ → ℤ) (effect : ℕ → ℕ → ℤ) (p : Capa
           subst (ServesBoth (held d) kind) (λ t k. is_pattern d l k t)
           ((component_served (held d) (directed (pattern_of p 0) totals d) places along most (h.along d l)).serves kind below placed
           (record { each = total_along kind added d l }))
+
+  pub patterns_ready : (held : ℕ → ℕ → ℕ → ℕ) (places : List ℕ) → ((k c : ℕ) → nat_abs (effect k c) ≤ effect_limit) → CapacitiesInRange p →
+      FourOf held (directed (pattern_of p 0) totals) places (directed (pattern_of p 0) effect) kind_count → PatternsReady held totals places effect
+  patterns_ready held places small range h =
+      record {
+        along = λ kind below placed added d l.
+            let most = directed_most (pattern_of p 0) (pattern_in_range p 0 range) effect small d in
+            (component_ready (held d) (directed (pattern_of p 0) totals d) places (directed (pattern_of p 0) effect d) most (h.along d l)).ready kind below placed
+            (record { each = total_along kind added d l });
+      }

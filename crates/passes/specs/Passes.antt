@@ -9,7 +9,7 @@ use Rattle.envelope.specs.declared.Sign.TheVariants.{Plus, Minus}
 use Rattle.envelope.specs.Envelope.{governing_of, weighed, pattern_of}
 use Rattle.envelope.specs.Places.{Places}
 use Rattle.sums.specs.Sums.{TotalsOf, AllTotalsOf, fluid_acts}
-use Rattle.governing.specs.Ways.{toward_of, Ready}
+use Rattle.governing.specs.Ways.{toward_of, Ready, ReadyBetween}
 
 -- what is read off sums holds of the effects, and with the sign minus of the effects with their signs turned
 pub record BothWays {A : Type 0} (reads : (ℕ → ℕ → ℕ) → Sign → A) (holds : (ℕ → ℤ) → A) (held : ℕ → ℕ → ℕ) (e : ℕ → ℤ) : Type 0 where
@@ -34,3 +34,10 @@ pub record ComponentPass (held : ℕ → ℕ → ℕ) (totals : ℕ → ℤ) (pl
 
 pub record PatternPass (held : ℕ → ℕ → ℕ → ℕ) (totals : ℕ → ℕ → ℤ) (places : List ℕ) (effect : ℕ → ℕ → ℤ) (p : Capacities) : Type 0 where
   pub serves : (kind : ℕ → ℕ) → ((k : ℕ) → kind k < kind_count) → Places places kind → AllTotalsOf totals kind effect → ServesPatterns held kind effect p
+
+-- The same of their range: the terms of any two sides are in it.
+pub record ComponentReady (held : ℕ → ℕ → ℕ) (totals : ℕ → ℤ) (places : List ℕ) (e : ℕ → ℤ) : Type 0 where
+  pub ready : (kind : ℕ → ℕ) → ((k : ℕ) → kind k < kind_count) → Places places kind → TotalsOf totals kind e → ReadyBetween held
+
+pub record PatternsReady (held : ℕ → ℕ → ℕ → ℕ) (totals : ℕ → ℕ → ℤ) (places : List ℕ) (effect : ℕ → ℕ → ℤ) : Type 0 where
+  pub along : (kind : ℕ → ℕ) → ((k : ℕ) → kind k < kind_count) → Places places kind → AllTotalsOf totals kind effect → (d : ℕ) → d < 4 → ReadyBetween (held d)

@@ -8,7 +8,7 @@ ghost use Rattle.envelope.specs.Signs.{signed};
 ghost use Rattle.envelope.specs.Places.{Placed};
 ghost use Rattle.sums.specs.Sums.{held_at};
 ghost use Rattle.sums.specs.Directions.{held_in};
-ghost use Rattle.passes.specs.Passes.{ComponentPass, PatternPass};
+ghost use Rattle.passes.specs.Passes.{ComponentPass, PatternPass, ComponentReady, PatternsReady};
 
 use envelope::{Component, Sign, Station, Weights};
 use standard::Capacities;
@@ -21,7 +21,8 @@ pub use one_component::OneComponent;
 // The totals of D and F, and one pass over the other cases of a station: the sums serve the maximum and the minimum of a component.
 pub fn component_pass(station: Station<'_, '_>, component: Component) -> Sums
     requires { Placed station.places.now.sets }
-    ensures { ComponentPass (held_at result.by_kind) (λ j. total_at station.entry.totals.now j (number_of_component component)) station.entry.places.now.sets (λ k. effect_of station.entry.effects.all.now k (number_of_component component)) }
+    ensures serves { ComponentPass (held_at result.by_kind) (λ j. total_at station.entry.totals.now j (number_of_component component)) station.entry.places.now.sets (λ k. effect_of station.entry.effects.all.now k (number_of_component component)) }
+    ensures ready { ComponentReady (held_at result.by_kind) (λ j. total_at station.entry.totals.now j (number_of_component component)) station.entry.places.now.sets (λ k. effect_of station.entry.effects.all.now k (number_of_component component)) }
 {
     let mut sums = [Sums::new()];
     let at = usize::from(component);
@@ -70,7 +71,8 @@ pub fn pattern_weights(p: Capacities, pattern: usize) -> Weights
 // The totals, and one pass over the other cases, in four directions: the sums serve a pattern of signs and the opposite one each, so all eight.
 pub fn pattern_pass(sums: &mut [Sums; 4], station: Station<'_, '_>, p: Capacities)
     requires { Placed station.places.now.sets × CapacitiesInRange p }
-    ensures { PatternPass (held_in sums.new) (total_at station.entry.totals.now) station.entry.places.now.sets (effect_of station.entry.effects.all.now) p }
+    ensures serves { PatternPass (held_in sums.new) (total_at station.entry.totals.now) station.entry.places.now.sets (effect_of station.entry.effects.all.now) p }
+    ensures ready { PatternsReady (held_in sums.new) (total_at station.entry.totals.now) station.entry.places.now.sets (effect_of station.entry.effects.all.now) }
 {
     directions::four_sums_of(sums, station, pattern_weights(p, 0));
 }

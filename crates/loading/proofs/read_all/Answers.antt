@@ -3,7 +3,7 @@ use Rattle.std.proofs.Common.{rules, arith, ◌∙◌, ◌<◌, ap, length, leng
 use Rattle.std.specs.Option.{option_or}
 use Rattle.headers.proofs.Whole.{part_from, consumed_some}
 use Rattle.lists.proofs.Placed.{read_put}
-use Rattle.loading.proofs.Lists.{going_room, going_next, going_end}
+use Rattle.loading.proofs.ReadAll.{going_room, going_next, going_end}
 use Rattle.loading.proofs.read_all.Goals as goal
 
 pub loop-left-smaller : goal.loop-left-smaller

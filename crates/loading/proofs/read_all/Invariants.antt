@@ -1,6 +1,6 @@
 -- The fields of the bytes left lead where those of the input lead.
 use Rattle.std.proofs.Common.{length}
-use Rattle.loading.proofs.Lists.{Going}
+use Rattle.loading.proofs.ReadAll.{Going}
 use Rattle.loading.proofs.read_all.Given as goal
 
 abbrev pub invariant-loop-left : goal.invariant-loop-left

@@ -1,9 +1,9 @@
--- What the pass holds of each kind serves both extremes.
+-- What the pass holds of each kind serves both extremes, and is in range on any two sides.
 use Prim.Native.Nat.{ℕ, zero, suc, ◌+◌, ◌*◌, ◌<◌, ◌≤◌}
 use native.Mathlib.Omega.{arith}
 use mathlib.Core.List.{List, [], ◌∷◌}
 use mathlib.Core.Path.{◌≡◌, ◌∙◌, ap, subst}
-use lib.IntN.{ℤ, pos, nat_abs}
+use lib.IntN.{ℤ, nat_abs}
 use mir.Syntax.{w64}
 use mir.Val.{to_z, of_z}
 use Rattle.integers.proofs.Machine.{back}
@@ -15,8 +15,8 @@ use Rattle.sums.specs.Sums.{total_count, total_in, sum_most, TotalsFit}
 use Rattle.sums.specs.Directions.{held_in}
 use Rattle.sums.proofs.Arrays.{held_got}
 use Rattle.sums.proofs.Gathered.{totals_same}
-use Rattle.passes.specs.Passes.{ComponentPass}
-use Rattle.passes.proofs.Served.{component_served}
+use Rattle.passes.specs.Passes.{ComponentPass, ComponentReady}
+use Rattle.passes.proofs.Served.{component_served, component_ready}
 use Rattle.passes.proofs.component_pass.Goals as goal
 
 -- the two totals on component n
@@ -58,8 +58,12 @@ returns c =
     let places = c.args.station.places.now.sets in
     let sums = c.sum_up.new.sums in
     let first : 0 < 1 = omega arith in
-    subst (λ (held : ℕ → ℕ → ℕ). ComponentPass held totals places e) (held_got sums 0 c.index-sums-0.result (omega (arith, c.sum_up.array_long)))
-    (component_served (held_in sums 0) totals places e (λ k. omega (arith, c.args.station.effects.in_range.range (k * 3 + n)))
-    (totals_same _ totals places e kind_count
+    let small : (k : ℕ) → nat_abs (e k) ≤ effect_most = λ k. omega (arith, c.args.station.effects.in_range.range (k * 3 + n)) in
+    let one = held_got sums 0 c.index-sums-0.result (omega (arith, c.sum_up.array_long)) in
+    let h = totals_same _ totals places e kind_count
     (λ j l. totals_are t c.args.station.in_range c.from-at.result j l ∙ ap (λ (i : ℕ). total_at t j i) c.from-at.ensures)
-    (c.sum_up.ensures 0 first)))
+    (c.sum_up.ensures 0 first) in
+    record {
+      serves = subst (λ (held : ℕ → ℕ → ℕ). ComponentPass held totals places e) one (component_served (held_in sums 0) totals places e small h);
+      ready = subst (λ (held : ℕ → ℕ → ℕ). ComponentReady held totals places e) one (component_ready (held_in sums 0) totals places e small h);
+    }

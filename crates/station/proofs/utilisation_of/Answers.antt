@@ -29,26 +29,26 @@ pub pattern_pass-requires : goal.pattern_pass-requires
 pattern_pass-requires c = (record { kind = kind_of c.args.kinds.now; below = below c.requires.0; are = c.places_of-places.ensures }, c.requires.2)
 
 pub highest-peak-requires : goal.highest-peak-requires
-highest-peak-requires c = λ d l. ((patterns c.requires c.places_of-places.ensures c.pattern_pass.ensures).along d l).ready
+highest-peak-requires c = λ d l. ((patterns c.requires c.places_of-places.ensures c.pattern_pass.ensures.serves).along d l).ready
 
 pub fluid_in-fluid-requires : goal.fluid_in-fluid-requires
-fluid_in-fluid-requires c = omega (arith, pattern_below c.requires c.places_of-places.ensures c.pattern_pass.ensures c.highest-peak.ensures)
+fluid_in-fluid-requires c = omega (arith, pattern_below c.requires c.places_of-places.ensures c.pattern_pass.ensures.serves c.highest-peak.ensures)
 
 pub invariant_of-weighed : goal.invariant_of-weighed
 invariant_of-weighed c =
-    record { in_range = weights_in_range c.requires c.places_of-places.ensures c.pattern_pass.ensures c.highest-peak.ensures c.pattern_weights-weights.ensures }
+    record { in_range = weights_in_range c.requires c.places_of-places.ensures c.pattern_pass.ensures.serves c.highest-peak.ensures c.pattern_weights-weights.ensures }
 
 pub sets_of-sets-requires : goal.sets_of-sets-requires
 sets_of-sets-requires c =
     let places = c.places_of-places in (
-      (peak_governs c.requires places.ensures c.pattern_pass.ensures c.highest-peak.ensures c.pattern_weights-weights.ensures).row,
+      (peak_governs c.requires places.ensures c.pattern_pass.ensures.serves c.highest-peak.ensures c.pattern_weights-weights.ensures).row,
       chosen_in_range places.result.sets (kind_of c.args.kinds.now) places.ensures c.highest-peak.result.best.row c.fluid_in-fluid.result,
     )
 
 pub extreme-x-requires : goal.extreme-x-requires
 extreme-x-requires c =
     let places = c.places_of-places.ensures in
-    let pass = c.pattern_pass.ensures in
+    let pass = c.pattern_pass.ensures.serves in
     let peak = c.highest-peak.ensures in
     let w = c.pattern_weights-weights.ensures in
     sets_fit c.requires.3 (below c.requires.0) places _ c.highest-peak.result.best (peak_acts c.requires places pass peak w c.fluid_in-fluid.ensures)
@@ -62,7 +62,7 @@ returns c =
     let kind = kind_of c.args.kinds.now in
     let effect = effect_of c.args.effects.now in
     let places = c.places_of-places.ensures in
-    let pass = c.pattern_pass.ensures in
+    let pass = c.pattern_pass.ensures.serves in
     let peak = c.highest-peak in
     let w = c.pattern_weights-weights in
     let x = c.extreme-x in
@@ -87,6 +87,7 @@ returns c =
     let from : UtilisationFromPass s kind effect p _ = record {
       held = held_in c.pattern_pass.new.sums;
       serve = patterns c.requires places pass;
+      ready = c.pattern_pass.ensures.ready.along kind (below c.requires.0) places c.requires.1.are;
       numerator = numerator ∙ ap (λ (q : Peak). nat_abs q.best.value) peak.ensures;
     } in
     (used, utilisation_governs s kind (past c.requires.0) effect p _ used c.requires.3, from)
