@@ -29,7 +29,7 @@ pub going_start : (input : List ℕ) {s : Sheet} {o : List ℕ} → InRange s �
 going_start input x r = record { sheet = refl; refusal = refl; output = refl; in_range = x; room = r }
 
 module _ {input : List ℕ} {left : List (List ℕ)} {start s : Sheet} {o₀ o : List ℕ} {earlier : Option ℕ} (h : Going input start o₀ left s o earlier) where
-  -- the sheet and the first refusal are those of a state
+  -- the sheet and the first refusal go as over a state
   as_state : states.Going input start left s earlier
   as_state = record { sheet = h.sheet; refusal = h.refusal; in_range = h.in_range }
 

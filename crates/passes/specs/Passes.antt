@@ -35,7 +35,7 @@ pub record ComponentPass (held : ℕ → ℕ → ℕ) (totals : ℕ → ℤ) (pl
 pub record PatternPass (held : ℕ → ℕ → ℕ → ℕ) (totals : ℕ → ℕ → ℤ) (places : List ℕ) (effect : ℕ → ℕ → ℤ) (p : Capacities) : Type 0 where
   pub serves : (kind : ℕ → ℕ) → ((k : ℕ) → kind k < kind_count) → Places places kind → AllTotalsOf totals kind effect → ServesPatterns held kind effect p
 
--- The same of their range: the terms of any two sides are in it.
+-- Of either, for the same kinds and totals: what is held is in range, and so are the terms of any two sides.
 pub record ComponentReady (held : ℕ → ℕ → ℕ) (totals : ℕ → ℤ) (places : List ℕ) (e : ℕ → ℤ) : Type 0 where
   pub ready : (kind : ℕ → ℕ) → ((k : ℕ) → kind k < kind_count) → Places places kind → TotalsOf totals kind e → ReadyBetween held
 

@@ -18,7 +18,8 @@ mod one_component;
 
 pub use one_component::OneComponent;
 
-// The totals of D and F, and one pass over the other cases of a station: the sums serve the maximum and the minimum of a component.
+// The totals of D and F, and one pass over the other cases of a station: the sums serve the maximum and the minimum of a component, and are
+// in range on any two sides.
 pub fn component_pass(station: Station<'_, '_>, component: Component) -> Sums
     requires { Placed station.places.now.sets }
     ensures serves { ComponentPass (held_at result.by_kind) (λ j. total_at station.entry.totals.now j (number_of_component component)) station.entry.places.now.sets (λ k. effect_of station.entry.effects.all.now k (number_of_component component)) }
@@ -68,7 +69,8 @@ pub fn pattern_weights(p: Capacities, pattern: usize) -> Weights
     }
 }
 
-// The totals, and one pass over the other cases, in four directions: the sums serve a pattern of signs and the opposite one each, so all eight.
+// The totals, and one pass over the other cases, in four directions: the sums serve a pattern of signs and the opposite one each, so all eight,
+// and are in range on any two sides.
 pub fn pattern_pass(sums: &mut [Sums; 4], station: Station<'_, '_>, p: Capacities)
     requires { Placed station.places.now.sets × CapacitiesInRange p }
     ensures serves { PatternPass (held_in sums.new) (total_at station.entry.totals.now) station.entry.places.now.sets (effect_of station.entry.effects.all.now) p }
